@@ -79,6 +79,7 @@ use Rattle.loom_memory.proofs.LoadLaws.{made-told}
 use Rattle.loom_memory.proofs.MakingLaws.{making-refused, quiet-thinned}
 use Rattle.loom_memory.proofs.RegLaws.{IsRooted, kept-rooted}
 use Rattle.loom_memory.proofs.SizeLaws.{levels-counts}
+use Rattle.loom_memory.proofs.DeadLaws.{thin-off}
 
 -- ---- numbers
 
@@ -372,15 +373,17 @@ overfull-making {H} host m n u live room x ready thin kept lives late full more 
 
 pub added-sound : {H : Type 0} (host : Ghosts H) (m : LoomMemory H) (q : Parts) (l : Ledger) (class : ℕ) (sort : Kind) (len header s : ℕ) → IsSound host m → IsParts q → size_of q.segment ≡ size_of m.parts.segment → IsNew (core_of m.parts) (core_of q) m.ledger.next class sort len header s → m.ledger.held < disk_room m.disk.rest → m.ledger.next ≤ 2 ^ 32
     → ((t : Levels) → core_of m.parts ≡ t.core → AreSound t [] → HasFew t → t.next ≡ m.ledger.next → AreSound (made t (core_of q)) []) → l ≡ record m.ledger { held = m.ledger.held + 1; made = m.ledger.made + 1; next = m.ledger.next + 2 }
-    → IsSound host (record m { parts = q; ledger = l })
-added-sound {H} host m q l class sort len header s sound parts size new low few f is = subst (λ (k : Ledger). IsSound host (record m { parts = q; ledger = k })) (sym is) (record {
+    → IsSound host (record m { parts = q; ledger = l; thinned = false })
+added-sound {H} host m q l class sort len header s sound parts size new low few f is = subst (λ (k : Ledger). IsSound host (record m { parts = q; ledger = k; thinned = false })) (sym is) (record {
   kept = kept-numbers q m.regs m.pinned m.ledger (m.ledger.held + 1) (m.ledger.made + 1) (m.ledger.next + 2) (calm-kept m.parts q m.regs m.pinned m.ledger sound.kept (new.calm m.pinned) parts (new.tight sound.kept.tight) size);
   over = added-over host m.disk.host.now m.disk.rest (core_of m.parts) (core_of q) m.ledger m.ledger.next class sort len header s sound.over new low (λ told. (next-absent host m.parts m.disk.host.now m.disk.rest m.ledger.next sound.exact told).1);
+  soon = (let was = sound.soon in omega (arith, was));
   exact = added-exact host m.parts q m.disk.host.now m.disk.rest m.ledger.next sound.exact few f;
+  thin = thin-off host (record m { parts = q; ledger = record m.ledger { held = m.ledger.held + 1; made = m.ledger.made + 1; next = m.ledger.next + 2 }; thinned = false }) refl;
 })
 
 pub added-is : {H : Type 0} (host : Ghosts H) (m : LoomMemory H) (q : Parts) (l : Ledger) (of c : ℕ) (sort : Kind) (len header s : ℕ) → IsSound host m → IsParts q → IsNew (core_of m.parts) (core_of q) m.ledger.next c sort len header s → c ≡ word_in m.regs of → is_short c ≡ true
-    → l ≡ record m.ledger { held = m.ledger.held + 1; made = m.ledger.made + 1; next = m.ledger.next + 2 } → HasAdded (loom_told host m) (loom_told host (record m { parts = q; ledger = l })) of (making_of sort len header)
+    → l ≡ record m.ledger { held = m.ledger.held + 1; made = m.ledger.made + 1; next = m.ledger.next + 2 } → HasAdded (loom_told host m) (loom_told host (record m { parts = q; ledger = l; thinned = false })) of (making_of sort len header)
 unfolding loom_told
 added-is {H} host m q l of c sort len header s sound parts new is short same =
     subst (λ (k : Ledger). HasAdded (told_of host m.disk.host.now m.disk.rest (core_of m.parts) m.regs m.pinned m.ledger) (told_of host m.disk.host.now m.disk.rest (core_of q) m.regs m.pinned k) of (making_of sort len header)) (sym same)

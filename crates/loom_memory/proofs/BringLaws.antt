@@ -41,7 +41,6 @@ use Rattle.loom_memory.specs.Memory.{heap_if, word_in, loom_told, IsSound, IsCal
 use Rattle.core_view.proofs.Chunks.{words-few}
 use Rattle.loom_memory.proofs.CallLaws.{unfit-entries, unfit-words, refused-at}
 use Rattle.loom_memory.proofs.CacheLaws.{left-refl}
-use Rattle.loom_memory.proofs.AccessLaws.{quiet-trans}
 
 -- a register that holds a name has a short one
 pub ref-short : (c : Core) (w : ℕ) → w ≢ 0 → IsRef (meant c.entries [] 0 w) → is_short w ≡ true
@@ -99,10 +98,6 @@ unfit-spare p regs pins k s words need kept short all is = go (nat_lt (spare_of 
     go false e = λ fits. short.wanting (omega arith, grind (arith, common_steps))
 
 -- ---- a last step after quiet ones
-
-pub ok-after : {T : Type 0} (r : Result T MemFault) (t u v : Told) → IsQuiet t u → OnOk r (IsQuiet u v) → OnOk r (IsQuiet t v)
-ok-after {T} (Ok x) t u v quiet is = quiet-trans t u v quiet is
-ok-after {T} (Err f) t u v quiet is = tt
 
 pub err-at : {T : Type 0} (r : Result T MemFault) (t u v : Told) (n k : ℕ) → k ≡ n → IsQuiet t u → IfErr r (IsRefusedAt u v k) → IfErr r (IsRefusedAt t v n)
 err-at {T} (Ok x) t u v n k same quiet is = tt

@@ -1,5 +1,5 @@
 -- Objects come and go, and what registers and slots hold stays: what is told stays.
-use Rattle.std.proofs.Common.{◌≡◌, ◌≢◌, ℕ, ◌+◌, ◌≤◌, Bool, true, false, cond, eqb, List, [], refl, sym, ◌∙◌, ap, subst, arith, Option, Some, None, IsTrue, ⊎_elim, Result, Ok, Err, add-zero}
+use Rattle.std.proofs.Common.{◌/◌, ◌≡◌, ◌≢◌, ℕ, ◌+◌, ◌≤◌, Bool, true, false, cond, eqb, List, [], refl, sym, ◌∙◌, ap, subst, arith, Option, Some, None, IsTrue, ⊎_elim, Result, Ok, Err, add-zero}
 use Rattle.std.proofs.lemmas.Grind.{common_steps}
 use Rattle.std.proofs.lemmas.Bool.{cases_eq}
 use Rattle.std.proofs.Math.Path.{fun_ext}
@@ -32,7 +32,7 @@ use Rattle.core_view.specs.Kept.{IsTight}
 use Rattle.disk_objects.specs.Function.{disk_of}
 use Rattle.core_view.specs.Purge.{IsPurged, fresh_of}
 use Rattle.purger.specs.Purge.{Undisturbed}
-use Rattle.loom_memory.specs.Memory.{word_in, pin_in, name_if, heap_if, told_of, IsPinned, IsKept, IsOver, IsExact, IsCalm, IsQuiet, IsSound, Others, others_of}
+use Rattle.loom_memory.specs.Memory.{word_in, pin_in, name_if, heap_if, told_of, IsPinned, IsKept, IsOver, IsExact, IsCalm, IsQuiet, IsThin, IsSound, Others, others_of}
 use Rattle.loom_memory.specs.Numbers.{IsNumbered}
 use Rattle.core_view.specs.Kept.{IsValued}
 use Rattle.loom_memory.specs.declared.memory.LoomMemory.{LoomMemory}
@@ -226,10 +226,10 @@ sound-if {T} {H} host (Ok v) old new rest now x y k over room stands keeps count
 sound-if {T} {H} host (Err Short) old new rest now x y k over room stands keeps counts = over-is host old new rest now x y k over room stands keeps counts
 sound-if {T} {H} host (Err (OfDisk f)) old new rest now x y k over room stands keeps counts = tt
 
-pub kept-if : {T H : Type 0} (host : Ghosts H) (r : Result T RoomFault) (m : LoomMemory H) → IsKept m.parts m.regs m.pinned m.ledger → Undisturbed r (IsOver host m.disk.host.now m.disk.rest (core_of m.parts) m.ledger) → Undisturbed r (IsExact host m.parts m.disk.host.now m.disk.rest m.ledger.next []) → Undisturbed r (IsSound host m)
-kept-if {T} {H} host (Ok v) m kept over exact = record { kept = kept; over = over; exact = exact }
-kept-if {T} {H} host (Err Short) m kept over exact = record { kept = kept; over = over; exact = exact }
-kept-if {T} {H} host (Err (OfDisk f)) m kept over exact = tt
+pub kept-if : {T H : Type 0} (host : Ghosts H) (r : Result T RoomFault) (m : LoomMemory H) → IsKept m.parts m.regs m.pinned m.ledger → Undisturbed r (IsOver host m.disk.host.now m.disk.rest (core_of m.parts) m.ledger) → Undisturbed r (IsExact host m.parts m.disk.host.now m.disk.rest m.ledger.next []) → Undisturbed r (IsThin host m) → m.due ≤ m.ledger.next + m.ledger.entries / 8 → Undisturbed r (IsSound host m)
+kept-if {T} {H} host (Ok v) m kept over exact thin soon = record { kept = kept; over = over; exact = exact; thin = thin; soon = soon }
+kept-if {T} {H} host (Err Short) m kept over exact thin soon = record { kept = kept; over = over; exact = exact; thin = thin; soon = soon }
+kept-if {T} {H} host (Err (OfDisk f)) m kept over exact thin soon = tt
 
 -- what is told of a store: the heap changes, and all marks may go
 pub store-told : {H : Type 0} (host : Ghosts H) (now : H) (rest : DiskRest) (x y : Core) (regs : List ℕ) (pins : Pinned) (k : Ledger) → IsRooted x regs pins → IsCalm pins x y

@@ -18,14 +18,15 @@ use Rattle.loom_memory.specs.declared.memory.LoomMemory.{LoomMemory}
 use Rattle.long_names.specs.State.{name_at, IsRef}
 use Rattle.loom_host.specs.declared.outside.Host.{Ghosts}
 use Rattle.object_memory.specs.Told.{Told}
-use Rattle.loom_memory.specs.Memory.{loom_told, word_in, IsQuiet, IsRefusalOf, IsSound}
+use Rattle.loom_memory.specs.Makings.{HasThinned}
+use Rattle.loom_memory.specs.Memory.{loom_told, word_in, IsRefusalOf, IsSound}
 use Rattle.loom_memory.proofs.GentleLaws.{entry-at}
 use Rattle.loom_memory.specs.Damage.{IsDamageOf, IsDamaged, IsUndamaged, words_read}
 
--- the name of a register's object, after a quiet step
-quiet-name : {H : Type 0} (host : Ghosts H) (m u : LoomMemory H) (of s : ℕ) → IsSound host u → IsQuiet (loom_told host m) (loom_told host u) → IsRef ((loom_told host m).regs of) → s ≡ word_in u.regs of → name_at ((loom_told host m).regs of) ≡ ((core_of u.parts).entries s).name
-quiet-name {H} host m u of s sound quiet ref same =
-    let regs : (loom_told host u).regs of ≡ (loom_told host m).regs of = ap (λ (t : Told). t.regs of) quiet.same in
+-- the name of a register's object, after a step that thins the heap
+thinned-name : {H : Type 0} (host : Ghosts H) (m u : LoomMemory H) (of s : ℕ) → IsSound host u → HasThinned (loom_told host m) (loom_told host u) → IsRef ((loom_told host m).regs of) → s ≡ word_in u.regs of → name_at ((loom_told host m).regs of) ≡ ((core_of u.parts).entries s).name
+thinned-name {H} host m u of s sound thin ref same =
+    let regs : (loom_told host u).regs of ≡ (loom_told host m).regs of = ap (λ (t : Told). t.regs of) thin.same in
     ap name_at (sym regs ∙ (entry-at host u of s sound (subst IsRef (sym regs) ref) same).name)
 
 -- what was read can't be so
@@ -62,15 +63,15 @@ pub room-same : {H : Type 0} (m u : LoomMemory H) (words : ℕ) → u ≡ m → 
 room-same {H} m u words same room = subst (λ (z : LoomMemory H). HasRoom z.parts words 27) (sym same) room
 
 -- what the object of a register lacks
-pub amiss-damage : {H : Type 0} (host : Ghosts H) (m u : LoomMemory H) (of s : ℕ) (rest : DiskRest) (r : MemFault) → IsSound host u → IsQuiet (loom_told host m) (loom_told host u) → IsRef ((loom_told host m).regs of) → s ≡ word_in u.regs of → r ≡ Damaged NOWHERE ((core_of u.parts).entries s).name
+pub amiss-damage : {H : Type 0} (host : Ghosts H) (m u : LoomMemory H) (of s : ℕ) (rest : DiskRest) (r : MemFault) → IsSound host u → HasThinned (loom_told host m) (loom_told host u) → IsRef ((loom_told host m).regs of) → s ≡ word_in u.regs of → r ≡ Damaged NOWHERE ((core_of u.parts).entries s).name
     → IsDamageOf rest (name_at ((loom_told host m).regs of)) r
-amiss-damage {H} host m u of s rest r sound quiet ref same is =
-    nowhere-damage rest (name_at ((loom_told host m).regs of)) r (is ∙ ap (Damaged NOWHERE) (sym (quiet-name host m u of s sound quiet ref same)))
+amiss-damage {H} host m u of s rest r sound thin ref same is =
+    nowhere-damage rest (name_at ((loom_told host m).regs of)) r (is ∙ ap (Damaged NOWHERE) (sym (thinned-name host m u of s sound thin ref same)))
 
-pub quiet-damage : {T H : Type 0} (r : Result T MemFault) (host : Ghosts H) (m u : LoomMemory H) (of s : ℕ) (rest : DiskRest) (room : Type 0) → IsSound host u → IsQuiet (loom_told host m) (loom_told host u) → IsRef ((loom_told host m).regs of) → s ≡ word_in u.regs of → IfErr r (IsDamageOf rest ((core_of u.parts).entries s).name)
+pub thinned-damage : {T H : Type 0} (r : Result T MemFault) (host : Ghosts H) (m u : LoomMemory H) (of s : ℕ) (rest : DiskRest) (room : Type 0) → IsSound host u → HasThinned (loom_told host m) (loom_told host u) → IsRef ((loom_told host m).regs of) → s ≡ word_in u.regs of → IfErr r (IsDamageOf rest ((core_of u.parts).entries s).name)
     → IfErr r (λ f. room → IsDamageOf rest (name_at ((loom_told host m).regs of)) f)
-quiet-damage {T} {H} (Ok x) host m u of s rest room sound quiet ref same is = tt
-quiet-damage {T} {H} (Err f) host m u of s rest room sound quiet ref same is = λ there. subst (λ (k : ℕ). IsDamageOf rest k f) (sym (quiet-name host m u of s sound quiet ref same)) is
+thinned-damage {T} {H} (Ok x) host m u of s rest room sound thin ref same is = tt
+thinned-damage {T} {H} (Err f) host m u of s rest room sound thin ref same is = λ there. subst (λ (k : ℕ). IsDamageOf rest k f) (sym (thinned-name host m u of s sound thin ref same)) is
 
 -- it isn't Damaged
 undamaged-each : (rest : DiskRest) (name : ℕ) (f : MemFault) → IsUndamaged f → IsDamageOf rest name f

@@ -133,7 +133,7 @@ mark-exact host p q now rest k l s core used parts is caching x = exact-caching 
 
 -- ---- the heap that is told is that of the levels
 
-heap-told : (b : Bool) (f : Disk) (n : ℕ) (h : Heap) → IsTrue b → f ≡ h.at → n ≡ h.next → heap_if b f n ≡ h
+pub heap-told : (b : Bool) (f : Disk) (n : ℕ) (h : Heap) → IsTrue b → f ≡ h.at → n ≡ h.next → heap_if b f n ≡ h
 heap-told true f n h told same next = heap-is f n h same next
 heap-told false f n h told same next = absurd (cc)
 

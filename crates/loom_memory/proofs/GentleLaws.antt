@@ -41,6 +41,7 @@ use Rattle.purger.specs.declared.room.Pinned.{Pinned}
 use Rattle.purger.proofs.RoomLaws.{all-pinned, none-of, some-of}
 use Rattle.loom_memory.specs.declared.ledger.Ledger.{Ledger}
 use Rattle.loom_memory.specs.declared.memory.LoomMemory.{LoomMemory}
+use Rattle.loom_memory.specs.Makings.{HasThinned}
 use Rattle.loom_memory.specs.Memory.{loom_told, word_in, IsCalm, IsQuiet, IsSized, IsSound, IsStill}
 use Rattle.loom_memory.specs.Stores.{IsRecount}
 use Rattle.loom_memory.specs.Says.{IsSpeech}
@@ -147,9 +148,9 @@ pub resident-at : {H : Type 0} (host : Ghosts H) (m : LoomMemory H) (of s : ℕ)
 resident-at {H} host m of s sound ref same = let it = entry-at host m of s sound ref same in ap (λ (v : Value). is_resident m (name_at v)) it.name ∙ resident-is m s sound.kept.parts.core it.used
 
 -- the object of a register is in the core after a quiet step
-pub resident-then : {H : Type 0} (host : Ghosts H) (m n : LoomMemory H) (of s p : ℕ) → IsSound host n → IsQuiet (loom_told host m) (loom_told host n) → IsRef ((loom_told host m).regs of) → s ≡ word_in n.regs of → place_of ((core_of n.parts).entries s).state ≡ Some p → IsTrue (is_resident n (name_at ((loom_told host m).regs of)))
-resident-then {H} host m n of s p sound quiet ref same there =
-    let same_ : (loom_told host n).regs of ≡ (loom_told host m).regs of = ap (λ (z : Told). z.regs of) quiet.same in
+pub resident-then : {H : Type 0} (host : Ghosts H) (m n : LoomMemory H) (of s p : ℕ) → IsSound host n → HasThinned (loom_told host m) (loom_told host n) → IsRef ((loom_told host m).regs of) → s ≡ word_in n.regs of → place_of ((core_of n.parts).entries s).state ≡ Some p → IsTrue (is_resident n (name_at ((loom_told host m).regs of)))
+resident-then {H} host m n of s p sound thin ref same there =
+    let same_ : (loom_told host n).regs of ≡ (loom_told host m).regs of = ap (λ (z : Told). z.regs of) thin.same in
     ap (λ (v : Value). is_resident n (name_at v)) (sym same_) ∙ resident-at host n of s sound (subst IsRef (sym same_) ref) same ∙ ap (λ (x : Option ℕ). is_some x) there
 
 -- ---- words
@@ -175,7 +176,7 @@ pub room-less : (p : Parts) (words entries : ℕ) → HasRoom p words entries �
 room-less p words entries room = (omega arith, room.1)
 
 -- the words of a record are those of the object that is told
-record-words : {H : Type 0} (host : Ghosts H) (m u : LoomMemory H) (s words : ℕ) → IsSound host u → is_used ((core_of u.parts).entries s).state ≡ true → u.parts ≡ m.parts → IsQuiet (loom_told host m) (loom_told host u) → IsSized (host.tells Work) (disk_of host u.disk.host.now u.disk.rest ((core_of u.parts).entries s).name) words
+pub record-words : {H : Type 0} (host : Ghosts H) (m u : LoomMemory H) (s words : ℕ) → IsSound host u → is_used ((core_of u.parts).entries s).state ≡ true → u.parts ≡ m.parts → IsQuiet (loom_told host m) (loom_told host u) → IsSized (host.tells Work) (disk_of host u.disk.host.now u.disk.rest ((core_of u.parts).entries s).name) words
     → IsTrue (host.tells Work) → place_of ((core_of u.parts).entries s).state ≡ None → words_at (loom_told host m).heap ((core_of m.parts).entries s).name ≡ words
 unfolding loom_told
 record-words {H} host m u s words sound used same quiet sized told leaf =
@@ -585,8 +586,8 @@ pub recount-none : (x y : Core) → IsRecount x y → Remains y x
 recount-none x y step = λ s p at. let same = step.entries s in record { at = p; place = ap (λ (e : Entry). place_of e.state) (sym same) ∙ at; name = ap (λ (e : Entry). e.name) (sym same) }
 
 -- the entry of a register, after a quiet step
-pub entry-named : {H : Type 0} (host : Ghosts H) (m u : LoomMemory H) (of s : ℕ) → IsSound host u → IsQuiet (loom_told host m) (loom_told host u) → IsRef ((loom_told host m).regs of) → s ≡ word_in u.regs of → ((core_of u.parts).entries s).name ≡ name_at ((loom_told host m).regs of)
-entry-named {H} host m u of s sound quiet ref word =
-    let same : (loom_told host u).regs of ≡ (loom_told host m).regs of = ap (λ (z : Told). z.regs of) quiet.same in
+pub entry-named : {H : Type 0} (host : Ghosts H) (m u : LoomMemory H) (of s : ℕ) → IsSound host u → HasThinned (loom_told host m) (loom_told host u) → IsRef ((loom_told host m).regs of) → s ≡ word_in u.regs of → ((core_of u.parts).entries s).name ≡ name_at ((loom_told host m).regs of)
+entry-named {H} host m u of s sound thin ref word =
+    let same : (loom_told host u).regs of ≡ (loom_told host m).regs of = ap (λ (z : Told). z.regs of) thin.same in
     let it = entry-at host u of s sound (subst IsRef (sym same) ref) word in
     ap name_at (sym it.name ∙ same)

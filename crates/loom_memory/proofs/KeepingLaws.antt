@@ -14,6 +14,7 @@ use Rattle.purger.specs.Marks.{KeepsMarks}
 use Rattle.purger.proofs.MarkLaws.{marked-at}
 use Rattle.loom_memory.specs.declared.memory.LoomMemory.{LoomMemory}
 use Rattle.loom_memory.specs.Cache.{cache_of}
+use Rattle.loom_memory.specs.Makings.{HasThinned}
 use Rattle.loom_memory.specs.Memory.{loom_told, word_in, IsQuiet, IsSound}
 use Rattle.loom_memory.specs.Own.{HasSpace, IsAtHand, IsUnmarked, KeepsCache}
 use Rattle.loom_memory.proofs.CacheLaws.{cache-same}
@@ -36,11 +37,11 @@ counts-keep {H} host m n sound core keeps rows mark begun =
     ∙ cache-same (core_of m.parts) (core_of n.parts) (found m.ledger.rows) m.ledger.mark m.ledger.begun sound.kept.parts.core core keeps sound.kept.cached
 
 -- it was opened to be stored into
-pub opened-keeps : {H P : Type 0} (host : Ghosts H) (m u v : LoomMemory H) (of s : ℕ) → IsSound host u → IsQuiet (loom_told host m) (loom_told host u) → IsRef ((loom_told host m).regs of) → s ≡ word_in u.regs of → (P → KeepsCache host m u) → (((core_of u.parts).entries s).flags.marked ≡ false → v ≡ u)
+pub opened-keeps : {H P : Type 0} (host : Ghosts H) (m u v : LoomMemory H) (of s : ℕ) → IsSound host u → HasThinned (loom_told host m) (loom_told host u) → IsRef ((loom_told host m).regs of) → s ≡ word_in u.regs of → (P → KeepsCache host m u) → (((core_of u.parts).entries s).flags.marked ≡ false → v ≡ u)
     → P → IsUnmarked host m (name_at ((loom_told host m).regs of)) → KeepsCache host m v
-opened-keeps {H} {P} host m u v of s sound quiet ref word first last = λ p off.
+opened-keeps {H} {P} host m u v of s sound thin ref word first last = λ p off.
     let same = first p in
-    let regs : (loom_told host u).regs of ≡ (loom_told host m).regs of = ap (λ (z : Told). z.regs of) quiet.same in
+    let regs : (loom_told host u).regs of ≡ (loom_told host m).regs of = ap (λ (z : Told). z.regs of) thin.same in
     let now : IsUnmarked host u (name_at ((loom_told host u).regs of)) = ap (λ (z : Cache). z.marks (name_at ((loom_told host u).regs of))) same ∙ ap (λ (x : Value). (loom_told host m).cache.marks (name_at x)) regs ∙ off in
     let idle = last (flag-off host u of s sound (subst IsRef (sym regs) ref) word now) in
     ap (λ (z : LoomMemory H). (loom_told host z).cache) idle ∙ same

@@ -6,7 +6,7 @@ use Rattle.long_names.specs.declared.value.Value.{Value}
 use Rattle.long_names.specs.State.{set_register}
 use Rattle.long_names.specs.Thin.{IsWhole}
 use Rattle.long_names.proofs.AccessLaws.{whole-after}
-use Rattle.long_names.specs.Access.{Access, Field, Nothing, CanDo, brought}
+use Rattle.long_names.specs.Access.{Field, Nothing, CanDo, brought}
 use Rattle.object_memory.specs.declared.fault.MemFault.{MemFault}
 use Rattle.object_memory.specs.Told.{Told, Cache, IsReady}
 use Rattle.object_memory.specs.Contract.{Accessed, IfBounds, HasCore}
@@ -45,10 +45,6 @@ field-came t u v to of i quiet taken core =
 pub field-last : (r : Result (Unit {0}) MemFault) (t u v : Told) (to of i : ℕ) → IsQuiet t u → OnOk r (IsTaken u v to of i) → IfErr r (IsRefused u v (Field to of i)) → IfBounds t.bounds (HasCore t (Field to of i)) → Accessed {A = Unit {0}} t v (Field to of i) (λ _. Nothing) r
 field-last (Ok x) t u v to of i quiet taken err core = field-came t u v to of i quiet taken core
 field-last (Err f) t u v to of i quiet taken err core = refused-is t v (Field to of i) (λ _. Nothing) f (after-quiet t u v (Field to of i) f tt refl quiet err)
-
--- what the access asks stays so over quiet steps
-pub can-still : (t u : Told) (a : Access) → IsQuiet t u → CanDo t.heap t.regs a → CanDo u.heap u.regs a
-can-still t u a quiet can = subst (λ (z : Told). CanDo z.heap z.regs a) (sym quiet.same) can
 
 -- ---- ready after it
 

@@ -49,4 +49,9 @@ pub mod SettleLaws
 pub mod FirstLaws
 pub mod ThinLaws
 pub mod FreshLaws
+pub mod FreedLaws
+pub mod FirstRoomLaws
+pub mod ReachLaws
 pub mod EndingLaws
+pub mod DeadLaws
+pub mod LivingLaws

@@ -38,7 +38,7 @@ quiet-thinned t u quiet ready =
       counts = quiet.counts;
     }
 
-thinned-tells : (t u : Told) → HasThinned t u → u.tells ≡ t.tells
+pub thinned-tells : (t u : Told) → HasThinned t u → u.tells ≡ t.tells
 thinned-tells t u x = ap (λ (z : Told). z.tells) x.same
 
 pub thinned-trans : (t u v : Told) → HasThinned t u → HasThinned u v → HasThinned t v
@@ -195,7 +195,7 @@ faults-below None (Some b) x = absurd x
 faults-below (Some a) None x = absurd x
 faults-below (Some a) (Some b) x = x.3
 
-left-thinned : (t u w : Told) → HasThinned t u → IsLeft u w → IsLeft t w
+pub left-thinned : (t u w : Told) → HasThinned t u → IsLeft u w → IsLeft t w
 left-thinned t u w thin x = record {
   regs = x.regs ∙ ap (λ (z : Told). z.regs) thin.same;
   slots = x.slots ∙ ap (λ (z : Told). z.slots) thin.same;
@@ -204,7 +204,7 @@ left-thinned t u w thin x = record {
   cache = left-trans t.cache u.cache w.cache thin.cache x.cache;
 }
 
-leaves-thinned : (t u w : Told) (f : MemFault) → HasThinned t u → LeavesAll f (IsLeft u w) → LeavesAll f (IsLeft t w)
+pub leaves-thinned : (t u w : Told) (f : MemFault) → HasThinned t u → LeavesAll f (IsLeft u w) → LeavesAll f (IsLeft t w)
 leaves-thinned t u w (CoreFull need) thin x = left-thinned t u w thin x
 leaves-thinned t u w (WorkFull live room) thin x = left-thinned t u w thin x
 leaves-thinned t u w (WorkFault count) thin x = tt

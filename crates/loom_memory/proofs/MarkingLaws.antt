@@ -32,6 +32,7 @@ use Rattle.purger.specs.declared.room.Pinned.{Pinned}
 use Rattle.purger.specs.Marks.{AreHere}
 use Rattle.loom_memory.specs.declared.ledger.Ledger.{Ledger}
 use Rattle.loom_memory.specs.Cache.{has_mark, is_word_of, row_by, cache_of, with_its_mark, IsCached, IsFresh}
+use Rattle.loom_memory.specs.Makings.{HasThinned}
 use Rattle.loom_memory.specs.Memory.{told_of, pin_in, name_if, word_in, IsPinned, IsKept, IsOver, IsQuiet, IsMarking}
 use Rattle.loom_memory.proofs.RegLaws.{heap-same, ready-put}
 use Rattle.loom_memory.proofs.CacheLaws.{and-both, both-and}
@@ -178,9 +179,9 @@ ready-mark u v of n marking name ready = subst IsReady (sym marking.same) (recor
     go told k true e on = (ready.whole told).rooted of k (name ∙ ap Ref (let same : k ≡ n = grind (arith, common_steps) in sym same))
     go told k false e on = ready.marked told k on
 
-pub marked-name : (t u v : Told) (of n : ℕ) → IsQuiet t u → IsMarking u v n → u.regs of ≡ Ref n → v.cache.marks (name_at (t.regs of)) ≡ true
-marked-name t u v of n quiet marking name =
-    ap v.cache.marks (ap name_at (ap (λ (z : Told). z.regs of) (sym quiet.same) ∙ name)) ∙ ap (λ (f : ℕ → Bool). f n) marking.cache.marks ∙ ap (λ (b : Bool). b || u.cache.marks n) (same n)
+pub marked-name : (t u v : Told) (of n : ℕ) → HasThinned t u → IsMarking u v n → u.regs of ≡ Ref n → v.cache.marks (name_at (t.regs of)) ≡ true
+marked-name t u v of n thin marking name =
+    ap v.cache.marks (ap name_at (ap (λ (z : Told). z.regs of) (sym thin.same) ∙ name)) ∙ ap (λ (f : ℕ → Bool). f n) marking.cache.marks ∙ ap (λ (b : Bool). b || u.cache.marks n) (same n)
   where
     same : (n : ℕ) → eqb n n ≡ true
     same n = grind (arith, common_steps)

@@ -54,7 +54,7 @@ use Rattle.loom_memory.proofs.SizeLaws.{levels-counts}
 -- ---- one word more, one word less
 
 -- a word that names no entry means a number
-number-meant : (entries : ℕ → Entry) (w : ℕ) → is_short w ≡ false → (z : ℤ) × (meant entries [] 0 w ≡ Int z)
+pub number-meant : (entries : ℕ → Entry) (w : ℕ) → is_short w ≡ false → (z : ℤ) × (meant entries [] 0 w ≡ Int z)
 number-meant entries w off = go (eqb w 0) refl
   where
     go : (b : Bool) → eqb w 0 ≡ b → (z : ℤ) × (meant entries [] 0 w ≡ Int z)

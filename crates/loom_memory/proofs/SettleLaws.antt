@@ -24,7 +24,7 @@ use Rattle.purger.specs.Draining.{KeepsHeld}
 use Rattle.loom_memory.specs.declared.ledger.Ledger.{Ledger}
 use Rattle.loom_memory.specs.declared.memory.LoomMemory.{LoomMemory}
 use Rattle.loom_memory.specs.Numbers.{IsNumbered}
-use Rattle.loom_memory.specs.Memory.{loom_told, told_of, heap_if, IsQuiet, IsSound}
+use Rattle.loom_memory.specs.Memory.{loom_told, told_of, heap_if, IsQuiet, IsThin, IsSound}
 use Rattle.loom_memory.specs.Own.{HasRested, IsIdle, KeepsCache}
 use Rattle.loom_memory.specs.Cache.{cache_of}
 use Rattle.method_cache.specs.Found.{found}
@@ -44,13 +44,16 @@ begun-told {H} host m n base is same = subst (λ (z : LoomMemory H). HasBegun (t
     (record { same = refl; bounds = (refl, refl, refl, omega arith, omega arith); settled = refl; base_is = refl }))
 
 begun-kept : {H : Type 0} (host : Ghosts H) (m : LoomMemory H) (base : Option ℕ) → IsSound host m → IsNumbered base 0 m.ledger.held m.ledger.next (disk_room m.disk.rest) → IsSound host (record m { ledger = record m.ledger { base = base; made = 0 } })
+unfolding loom_told IsThin
 begun-kept {H} host m base sound numbers =
     let kept = sound.kept in
     let over = sound.over in
     record {
       kept = record { parts = kept.parts; tight = kept.tight; size = kept.size; entries = kept.entries; rooted = kept.rooted; filled = kept.filled; many = kept.many; pinned = kept.pinned; here = kept.here; cached = kept.cached };
       over = record { stands = over.stands; backed = over.backed; counted = over.counted; roomy = over.roomy; based = numbers; valued = over.valued };
+      soon = sound.soon;
       exact = sound.exact;
+      thin = sound.thin;
     }
 
 pub begun-sound : {H : Type 0} (host : Ghosts H) (m : LoomMemory H) (l : Ledger) (base : Option ℕ) → IsSound host m → IsNumbered base 0 m.ledger.held m.ledger.next (disk_room m.disk.rest) → l ≡ record m.ledger { base = base; made = 0 } → IsSound host (record m { ledger = l })

@@ -58,6 +58,7 @@ use Rattle.loom_memory.proofs.CalmLaws.{purged-calm, store-calm, store-told, cal
 use Rattle.loom_memory.proofs.LoadLaws.{field-told, object-told}
 use Rattle.loom_memory.proofs.ExactLaws.{exact-counts}
 use Rattle.loom_memory.proofs.RegLaws.{kept-rooted}
+use Rattle.loom_memory.proofs.DeadLaws.{thin-quiet}
 
 -- ---- answered
 
@@ -341,12 +342,15 @@ unmark-quiet {H} host m q sound parts stays calm =
 
 pub unmark-sound : {H : Type 0} (host : Ghosts H) (m : LoomMemory H) (q : Parts) → IsSound host m → IsParts q → Stays (core_of m.parts) (core_of q) → IsUnmarking (core_of m.parts) (core_of q) → IsCalm m.pinned (core_of m.parts) (core_of q) → q.segment ≡ m.parts.segment
     → IsSound host (record m { parts = q })
+unfolding loom_told
 unmark-sound {H} host m q sound parts stays step calm segment = record {
   kept = calm-kept m.parts q m.regs m.pinned m.ledger sound.kept calm parts (unmarked-tight (core_of m.parts) (core_of q) step sound.kept.tight) (ap size_of segment);
   over = over-is host m.disk.host.now m.disk.host.now m.disk.rest m.disk.rest (core_of m.parts) (core_of q) m.ledger sound.over refl sound.over.stands
       (λ told. let keeps = stays (disk_of host m.disk.host.now m.disk.rest) (sound.over.backed told) in record { backed = keeps.backed; held = keeps.held })
       (λ told. let same = unmarked-fresh (core_of m.parts) (core_of q) step in omega arith);
+  soon = sound.soon;
   exact = exact-counts host m.parts q m.disk.host.now m.disk.rest m.ledger.next sound.exact parts stays (unmarking-counts (core_of m.parts) (core_of q) step);
+  thin = thin-quiet host m (record m { parts = q }) sound.thin (λ on. on) (unmark-quiet host m q sound parts stays calm);
 }
 
 -- ---- stores that are refused, for whatever access

@@ -1,10 +1,11 @@
 -- Dead objects go, and what is told of the rest stays.
-use Rattle.std.proofs.Common.{◌≡◌, ◌≢◌, ℕ, ◌+◌, ◌≤◌, ◌||◌, Bool, true, false, cond, eqb, eqb-true, List, [], ◌∷◌, count_by, Option, Some, None, IsTrue, refl, sym, ◌∙◌, ap, ap₂, subst, add-zero, arith}
+use Rattle.std.proofs.Common.{zero, suc, inl, inr, ◌≡◌, ◌≢◌, ℕ, ◌+◌, ◌≤◌, ◌||◌, Bool, true, false, cond, eqb, eqb-true, List, [], ◌∷◌, count_by, Option, Some, None, IsTrue, refl, sym, ◌∙◌, ap, ap₂, subst, add-zero, arith}
 use Rattle.std.proofs.lemmas.Grind.{common_steps}
 use Rattle.long_names.specs.declared.value.Value.{Value}
 use Rattle.long_names.specs.declared.value.Value.TheVariants.{Ref}
-use Rattle.long_names.specs.Heap.{Heap, Has, IsBounded, object_count}
+use Rattle.long_names.specs.Heap.{Heap, Has, IsBounded, count_of, object_count}
 use Rattle.long_names.specs.Kept.{kept}
+use Rattle.long_names.specs.Names.{is_known}
 use Rattle.long_names.specs.State.{IsRef}
 use Rattle.long_names.specs.Thin.{IsThinner, IsWhole}
 use Rattle.loom_host.specs.declared.outside.DiskFault.{DiskFault}
@@ -44,7 +45,7 @@ use Rattle.object_memory.specs.Told.{Told, is_root}
 use Rattle.object_memory.specs.declared.fault.MemFault.{MemFault}
 use Rattle.object_memory.specs.Contract.{LeavesAll}
 use Rattle.loom_memory.specs.declared.ledger.Ledger.{Ledger}
-use Rattle.loom_memory.specs.Memory.{word_in, pin_in, name_if, heap_if, told_of, IsCalm, IsExact, IsKept, IsOver, IsPinned, IsRefusalOf}
+use Rattle.loom_memory.specs.Memory.{word_in, pin_in, name_if, heap_if, told_of, IsCalm, IsExact, IsKept, IsOver, IsPinned, IsRefusalOf, IsStillNamed, NothingDead}
 use Rattle.loom_memory.specs.Makings.{HasKept, HasThinned}
 use Rattle.loom_memory.specs.Numbers.{IsNumbered}
 use Rattle.loom_memory.proofs.BringLaws.{ref-short}
@@ -105,7 +106,7 @@ thinned-told {H} host old new rest now x y regs pins k n root calm said =
 
 -- ---- what registers, slots and marks name is held
 
-entry-has : (t : Levels) (s n : ℕ) → AreSound t [] → is_used (t.core.entries s).state ≡ true → (t.core.entries s).name ≡ n → Has (heap_of t) n
+pub entry-has : (t : Levels) (s n : ℕ) → AreSound t [] → is_used (t.core.entries s).state ≡ true → (t.core.entries s).name ≡ n → Has (heap_of t) n
 entry-has t s n x used name = x.counted.entered n s (ap t.core.find (sym name) ∙ x.core.found s used)
 
 ref-of : (c : Core) (w n : ℕ) → w ≢ 0 → meant c.entries [] 0 w ≡ Ref n → (is_short w ≡ true) × ((c.entries w).name ≡ n)
@@ -255,6 +256,27 @@ pub thin-again : {H : Type 0} (host : Ghosts H) (p q : Parts) (was now : H) (bef
 thin-again host p q was now before rest regs pins k n x told =
     let y = told-by host p q was now before rest regs pins k x told in
     kept-again (told_of host now rest (core_of q) regs pins (record k { held = n })) y.left.drained.thinned.levels y.new_heap y.left.drained.thinned.sound y.left.drained.none (step-free host p q was now before rest regs pins k n x y)
+
+-- and nothing that is left is dead
+pub thin-nothing : {H : Type 0} (host : Ghosts H) (p q : Parts) (was now : H) (before rest : DiskRest) (regs : List ℕ) (pins : Pinned) (k : Ledger) (n : ℕ) → IsThinStep host p q was now before rest regs pins k
+    → NothingDead (told_of host now rest (core_of q) regs pins (record k { held = n }))
+thin-nothing host p q was now before rest regs pins k n x told m has = go (is_known m) refl (is_root u m) refl (count_of u.heap m) refl where
+  u : Told
+  u = told_of host now rest (core_of q) regs pins (record k { held = n })
+
+  y : IsToldBy host p q was now before rest regs pins k
+  y = told-by host p q was now before rest regs pins k x told
+
+  go : (a : Bool) → is_known m ≡ a → (b : Bool) → is_root u m ≡ b → (c : ℕ) → count_of u.heap m ≡ c → IsStillNamed u m
+  go true e b f c g = inl e
+  go false e true f c g = inr (inl f)
+  go false e false f (suc c) g = inr (inr (omega (arith, g)))
+  go false e false f zero g = absurd (y.left.drained.none m (record {
+    held = subst (λ (h : Heap). Has h m) y.new_heap has;
+    unknown = e;
+    uncounted = ap (λ (h : Heap). count_of h m) (sym y.new_heap) ∙ g;
+    free = step-free host p q was now before rest regs pins k n x y m f;
+  }))
 
 -- each object that is left, and had a body, still has it
 pub thin-bodies : {H : Type 0} (host : Ghosts H) (p q : Parts) (was now : H) (before rest : DiskRest) (regs : List ℕ) (pins : Pinned) (k : Ledger) (n : ℕ) → IsThinStep host p q was now before rest regs pins k → IsTrue (host.tells Work)

@@ -1,12 +1,11 @@
 -- What a word names was used: a flag of its entry says so, and nothing else differs.
-use Rattle.std.proofs.Common.{◌≡◌, ℕ, ◌+◌, cond, eqb, [], Option, Some, None, IsTrue, refl, sym, ◌∙◌, ap, subst, inl, arith}
+use Rattle.std.proofs.Common.{◌≡◌, ℕ, cond, eqb, [], Option, Some, None, refl, sym, ◌∙◌, ap, subst, inl, arith}
 use Rattle.std.proofs.Math.Path.{fun_ext}
 use Rattle.long_names.specs.declared.value.Value.{Value}
 use Rattle.loom_host.specs.declared.outside.Host.{Ghosts}
 use Rattle.loom_host.specs.declared.outside.Role.TheVariants.{Work}
 use Rattle.loom_host.specs.Work.{IsWorkRead}
 use Rattle.object_table.specs.Entries.{place_of, sum_below}
-use Rattle.disk_objects.specs.declared.rest.DiskRest.{DiskRest}
 use Rattle.disk_objects.specs.Function.{disk_of}
 use Rattle.core_segment.specs.Chunks.{Chunk}
 use Rattle.core_segment.specs.Segment.{size_of}
@@ -32,19 +31,10 @@ use Rattle.loom_memory.proofs.CalmLaws.{purged-calm, calm-kept, over-is}
 use Rattle.loom_memory.proofs.ExactLaws.{exact-counts}
 use Rattle.loom_memory.proofs.GentleLaws.{fetched-same, read-refl}
 use Rattle.loom_memory.proofs.RegLaws.{heap-same}
+use Rattle.loom_memory.proofs.DeadLaws.{thin-told}
 
 calm-of : {H : Type 0} (m : LoomMemory H) (q : Parts) → IsTouching (core_of m.parts) (core_of q) → ((t : ℕ) → outside (core_of q) t ≡ outside (core_of m.parts) t) → IsCalm m.pinned (core_of m.parts) (core_of q)
 calm-of {H} m q step out = purged-calm m.pinned (core_of m.parts) (core_of q) (touch-purged m.pinned.a m.pinned.b m.pinned.d (core_of m.parts) (core_of q) step out) (inl (touch-marks (core_of m.parts) (core_of q) step)) (touch-here (core_of m.parts) (core_of q) step)
-
-pub use-sound : {H : Type 0} (host : Ghosts H) (m : LoomMemory H) (q : Parts) → IsSound host m → IsParts q → Stays (core_of m.parts) (core_of q) → IsTouching (core_of m.parts) (core_of q) → ((t : ℕ) → outside (core_of q) t ≡ outside (core_of m.parts) t) → q.segment ≡ m.parts.segment
-    → IsSound host (record m { parts = q })
-use-sound {H} host m q sound parts stays step out segment = record {
-  kept = calm-kept m.parts q m.regs m.pinned m.ledger sound.kept (calm-of m q step out) parts (touch-tight (core_of m.parts) (core_of q) step sound.kept.tight) (ap size_of segment);
-  over = over-is host m.disk.host.now m.disk.host.now m.disk.rest m.disk.rest (core_of m.parts) (core_of q) m.ledger sound.over refl sound.over.stands
-      (λ told. let keeps = stays (disk_of host m.disk.host.now m.disk.rest) (sound.over.backed told) in record { backed = keeps.backed; held = keeps.held })
-      (λ told. let same = touch-fresh (core_of m.parts) (core_of q) step in omega arith);
-  exact = exact-counts host m.parts q m.disk.host.now m.disk.rest m.ledger.next sound.exact parts stays (touch-counts (core_of m.parts) (core_of q) step);
-}
 
 pub use-means : (x y : Core) (w : ℕ) → IsTouching x y → meant y.entries [] 0 w ≡ meant x.entries [] 0 w
 use-means x y w step = meant-names x.entries y.entries [] 0 w (λ is. touch-name x y w step)
@@ -60,6 +50,19 @@ use-told {H} host m q sound parts stays step =
     let slots' : ◌≡◌ {A = ℕ → Option ℕ} (λ i. name_if y.entries (pin_in m.pinned i)) (λ i. name_if x.entries (pin_in m.pinned i)) = fun_ext (λ i. ap (λ (n : ℕ). cond (eqb (pin_in m.pinned i) 0) None (Some n)) (touch-name x y (pin_in m.pinned i) step)) in
     let cache' = cache-same x y (found m.ledger.rows) m.ledger.mark m.ledger.begun sound.kept.parts.core parts.core (touch-marks x y step) sound.kept.cached in
     λ i. record (told_of host m.disk.host.now m.disk.rest x m.regs m.pinned m.ledger) { heap = heap i; regs = regs' i; slots = slots' i; cache = cache' i }
+
+pub use-sound : {H : Type 0} (host : Ghosts H) (m : LoomMemory H) (q : Parts) → IsSound host m → IsParts q → Stays (core_of m.parts) (core_of q) → IsTouching (core_of m.parts) (core_of q) → ((t : ℕ) → outside (core_of q) t ≡ outside (core_of m.parts) t) → q.segment ≡ m.parts.segment
+    → IsSound host (record m { parts = q })
+unfolding loom_told
+use-sound {H} host m q sound parts stays step out segment = record {
+  kept = calm-kept m.parts q m.regs m.pinned m.ledger sound.kept (calm-of m q step out) parts (touch-tight (core_of m.parts) (core_of q) step sound.kept.tight) (ap size_of segment);
+  over = over-is host m.disk.host.now m.disk.host.now m.disk.rest m.disk.rest (core_of m.parts) (core_of q) m.ledger sound.over refl sound.over.stands
+      (λ told. let keeps = stays (disk_of host m.disk.host.now m.disk.rest) (sound.over.backed told) in record { backed = keeps.backed; held = keeps.held })
+      (λ told. let same = touch-fresh (core_of m.parts) (core_of q) step in omega arith);
+  exact = exact-counts host m.parts q m.disk.host.now m.disk.rest m.ledger.next sound.exact parts stays (touch-counts (core_of m.parts) (core_of q) step);
+  soon = sound.soon;
+  thin = thin-told host m (record m { parts = q }) sound.thin (λ on. on) (use-told host m q sound parts stays step);
+}
 
 use-remains : (x y : Core) → IsTouching x y → Remains x y
 use-remains x y step = λ s p at. record { at = p; place = ap place_of (touch-state x y s step) ∙ at; name = touch-name x y s step }

@@ -14,5 +14,7 @@ pub mod Own
 pub mod Gentle
 pub mod New
 pub mod Makings
+pub mod Freed
 pub mod Beginning
 pub mod Ending
+pub mod Thinned

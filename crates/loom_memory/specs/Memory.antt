@@ -1,11 +1,12 @@
 -- What a two-level memory tells, and what it keeps.
-use Rattle.std.specs.Prelude.{◌≡◌, ◌≢◌, ℕ, ◌+◌, ◌≤◌, ◌==◌, ◌||◌, Bool, true, false, List, [], length, count_by, Option, None, Some, IsTrue, slice_index_or, if◌then◌else◌}
+use Rattle.std.specs.Prelude.{◌≡◌, ◌≢◌, ℕ, ◌+◌, ◌/◌, ◌<◌, ◌≤◌, ◌⊎◌, ◌==◌, ◌||◌, Bool, true, false, List, [], length, count_by, Option, None, Some, IsTrue, slice_index_or, if◌then◌else◌}
 use Rattle.long_names.specs.declared.value.Value.{Value}
 use Rattle.long_names.specs.declared.value.Value.TheVariants.{Ref}
 use Rattle.long_names.specs.declared.limits.TheConstants.{ENTRIES_OF_A_CALL, REGISTERS}
 use Rattle.object_memory.specs.declared.fault.Need.{Need}
 use Rattle.long_names.specs.declared.object.Object.{Object}
-use Rattle.long_names.specs.Heap.{Heap}
+use Rattle.long_names.specs.Heap.{Heap, Has, count_of}
+use Rattle.long_names.specs.Names.{is_known}
 use Rattle.long_names.specs.Objects.{body_words}
 use Rattle.long_names.specs.Access.{Access, Say, Field, SetField, brought, heap_after, target_of}
 use Rattle.long_names.specs.State.{set_register}
@@ -13,7 +14,7 @@ use Rattle.loom_host.specs.Outside.{RoleState, at_start, holds}
 use Rattle.loom_host.specs.declared.outside.Role.{Role}
 use Rattle.loom_host.specs.declared.outside.Role.TheVariants.{Work, Transcript}
 use Rattle.loom_host.specs.declared.outside.Host.{Ghosts}
-use Rattle.object_memory.specs.Told.{Told}
+use Rattle.object_memory.specs.Told.{Told, is_root}
 use Rattle.object_memory.specs.declared.fault.MemFault.{MemFault}
 use Rattle.object_memory.specs.declared.fault.MemFault.TheVariants.{WorkFault, Damaged}
 use Rattle.loom_host.specs.declared.outside.DiskFault.{DiskFault}
@@ -121,10 +122,31 @@ pub record IsOver {H : Type 0} (host : Ghosts H) (now : H) (rest : DiskRest) (c 
 abbrev pub IsExact : {H : Type 0} → Ghosts H → Parts → H → DiskRest → ℕ → List Value → Type 0
 IsExact host p now rest next owed = IsTrue (host.tells Work) → (t : Levels) × StandsFor host p now rest t × AreSound t owed × (t.next ≡ next)
 
+-- ---- nothing is dead
+
+-- an object is known, a register or a slot names it, or an object of the heap holds it
+abbrev pub IsStillNamed : Told → ℕ → Type 0
+IsStillNamed t n = (is_known n ≡ true) ⊎ ((is_root t n ≡ true) ⊎ (0 < count_of t.heap n))
+
+-- so is each object of the heap, where that is told
+abbrev pub NothingDead : Told → Type 0
+NothingDead t = IsTrue t.tells → (n : ℕ) → Has t.heap n → IsStillNamed t n
+
+-- the entry of a word is that of a known object, or some word of the core names it
+abbrev pub IsNamedIn : Core → ℕ → Type 0
+IsNamedIn c w = (is_known (c.entries w).name ≡ true) ⊎ (1 ≤ (c.entries w).refs)
+
+-- where a memory is thinned, nothing is dead
+unfoldable pub IsThin : {H : Type 0} → Ghosts H → LoomMemory H → Type 0
+IsThin host m = m.thinned ≡ true → NothingDead (loom_told host m)
+
 pub record IsSound {H : Type 0} (host : Ghosts H) (m : LoomMemory H) : Type 0 where
   pub kept : IsKept m.parts m.regs m.pinned m.ledger
   pub over : IsOver host m.disk.host.now m.disk.rest (core_of m.parts) m.ledger
   pub exact : IsExact host m.parts m.disk.host.now m.disk.rest m.ledger.next []
+  -- what is dead is looked for again after so many makings at most
+  pub soon : m.due ≤ m.ledger.next + m.ledger.entries / 8
+  pub thin : IsThin host m
 
 -- while these words are owed
 pub record IsOwing {H : Type 0} (host : Ghosts H) (m : LoomMemory H) (owed : List Value) : Type 0 where

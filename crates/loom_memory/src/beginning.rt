@@ -89,6 +89,7 @@ impl<'h, H: Host> LoomMemory<'h, H> {
             pinned: Pinned { a: 0, b: 0, d: 0 },
             hand: 0,
             due: 0,
+            thinned: false,
             ledger: Ledger {
                 core,
                 entries,

@@ -79,7 +79,7 @@ fn bytes_first(p: &Parts, s: Short, at: Addr) -> Option<u32>
     ensures first { result ≡ bytes_from ((core_of p.now).entries s.0).kind ((core_of p.now).chunks at.place).words }
     ensures small { IfSome result (λ n. n < 2 ^ 16) }
 {
-    let kind = p.names.table.entry(s).kind;
+    let kind = p.names.table.used_entry(s).kind;
     match kind {
         Kind::Bytes => Some(0),
         Kind::Method => Some(1 + literals_of(p, at, kind)),
@@ -93,7 +93,7 @@ pub(crate) fn word_at(p: &Parts, s: Short, i: u32) -> Option<u16>
     requires there { (at : ℕ) × (place_of ((core_of p.now).entries s.0).state ≡ Some at) }
     ensures { OfBody (core_of p.now) s.0 (λ b. result ≡ option_and_then (λ words. slice_get words i) (words_of b)) }
 {
-    let e = p.names.table.entry(s);
+    let e = p.names.table.used_entry(s);
     let at = place_of_body(p, s);
     match e.kind {
         Kind::Words => {
@@ -115,7 +115,7 @@ pub(crate) fn field_count_at(p: &Parts, s: Short) -> Option<u32>
     ensures there { OnSome result (IsSome (place_of ((core_of p.now).entries s.0).state)) }
     ensures bound { IfSome result (λ n. n < MOST_FIELDS + 1) }
 {
-    let e = p.names.table.entry(s);
+    let e = p.names.table.used_entry(s);
     if !e.place().is_some() {
         return None;
     }
@@ -133,7 +133,7 @@ pub(crate) fn header_at(p: &Parts, s: Short) -> Option<i16>
     ensures header { OfBody (core_of p.now) s.0 (λ b. result ≡ header_of b) }
     ensures range { IfSome result IsSmallInteger }
 {
-    let e = p.names.table.entry(s);
+    let e = p.names.table.used_entry(s);
     let at = place_of_body(p, s);
     match e.kind {
         Kind::Method => Some(int_short(p.segment.word(at, 0))),
@@ -147,7 +147,7 @@ pub(crate) fn byte_at(p: &Parts, s: Short, i: u32) -> Option<u8>
     requires there { (at : ℕ) × (place_of ((core_of p.now).entries s.0).state ≡ Some at) }
     ensures { OfBody (core_of p.now) s.0 (λ b. result ≡ option_and_then (λ bytes. slice_get bytes i) (bytes_of b)) }
 {
-    let e = p.names.table.entry(s);
+    let e = p.names.table.used_entry(s);
     let at = place_of_body(p, s);
     match bytes_first(p, s, at) {
         Some(first) => {
@@ -192,7 +192,7 @@ pub(crate) fn code_byte_at(p: &Parts, s: Short, place: u32) -> Option<u8>
     ensures byte { OfBody (core_of p.now) s.0 (λ b. result ≡ code_at place b) }
     ensures there { OnSome result (IsSome (place_of ((core_of p.now).entries s.0).state)) }
 {
-    let e = p.names.table.entry(s);
+    let e = p.names.table.used_entry(s);
     match e.place() {
         Some(body) => match e.kind {
             Kind::Method => code_byte(&p.segment, Addr { place: body }, e.len, place),
@@ -209,7 +209,7 @@ pub(crate) fn words_into(p: &Parts, s: Short, i: u32, out: &mut [u16]) -> bool
     requires there { (at : ℕ) × (place_of ((core_of p.now).entries s.0).state ≡ Some at) }
     ensures { OfBody (core_of p.now) s.0 (λ b. MatchBool result (HasRun (words_of b) i (length out.old) out.new) (LacksRun (words_of b) i (length out.old))) }
 {
-    let e = p.names.table.entry(s);
+    let e = p.names.table.used_entry(s);
     let at = place_of_body(p, s);
     match e.kind {
         Kind::Words => {
@@ -229,7 +229,7 @@ pub(crate) fn bytes_into(p: &Parts, s: Short, i: u32, out: &mut [u8]) -> bool
     requires there { (at : ℕ) × (place_of ((core_of p.now).entries s.0).state ≡ Some at) }
     ensures { OfBody (core_of p.now) s.0 (λ b. MatchBool result (HasRun (bytes_of b) i (length out.old) out.new) (LacksRun (bytes_of b) i (length out.old))) }
 {
-    let e = p.names.table.entry(s);
+    let e = p.names.table.used_entry(s);
     let at = place_of_body(p, s);
     match bytes_first(p, s, at) {
         Some(first) => {

@@ -42,7 +42,7 @@ fn set_mark(p: &mut Parts, s: Short)
     ensures core { core_of p.new ≡ with_entry (core_of p.old) s.0 (with_its_mark ((core_of p.old).entries s.0)) }
     ensures segment { p.new.segment ≡ p.old.segment }
 {
-    let mut e = p.names.table.entry(s);
+    let mut e = p.names.table.used_entry(s);
     e.flags.marked = true;
     p.names.table.set(s, e);
 }
@@ -73,6 +73,7 @@ fn refresh(p: &Parts, k: &mut Ledger)
 impl<'h, H: Host> LoomMemory<'h, H> {
     ghost use Rattle.loom_memory.specs.Gentle.{IsResting, IsSteady, Remains};
     ghost use Rattle.loom_memory.specs.Damage.{IsDamaged};
+    ghost use Rattle.loom_memory.specs.Freed.{IsFreedBy};
     ghost use Rattle.loom_memory.specs.Residents.{is_resident};
     ghost use Rattle.loom_memory.specs.Own.{BringsOne, HasPlace, IsBrought, IsSparingChange, MindsCache};
     ghost use Rattle.long_names.specs.State.{name_at};
@@ -119,6 +120,7 @@ impl<'h, H: Host> LoomMemory<'h, H> {
         ensures cached { OnOk result (HasPlace H.Host self.old (name_at ((loom_told H.Host self.old).regs r))
             → (loom_told H.Host self.new).cache ≡ with_mark (loom_told H.Host self.old).cache (Some (name_at ((loom_told H.Host self.old).regs r)))) }
         ensures minds { OnOk result (MindsCache H.Host (Some (name_at ((loom_told H.Host self.old).regs r))) self.old self.new (IsBrought self.old self.new (name_at ((loom_told H.Host self.old).regs r)))) }
+        ensures gone { OnOk result (IsFreedBy H.Host self.old self.new (name_at ((loom_told H.Host self.old).regs r)) (Mark r)) }
         ensures damage { IsDamaged self.old self.new (name_at ((loom_told H.Host self.old).regs r)) result }
         ensures brings { BringsOne self.old self.new (is_resident self.old (name_at ((loom_told H.Host self.old).regs r)) ≡ false) }
         ensures fit { StaysCallable (IsSound H.Host) (loom_told H.Host) loom_lender (loom_outside H.Host) self.old self.new result }

@@ -24,6 +24,7 @@ impl<'h, H: Host> LoomMemory<'h, H> {
     ghost use Rattle.object_memory.specs.Contract.{Called, Follows, IsLater, KeepsSound, Thins};
     ghost use Rattle.object_memory.specs.Fit.{MayCall, StaysCallable};
     ghost use Rattle.loom_memory.specs.Memory.{loom_told, loom_outside, loom_lender, IsQuiet, IsSound};
+    ghost use Rattle.loom_memory.specs.Freed.{IsAlive};
     ghost use Rattle.loom_memory.specs.Makings.{IsLost};
     ghost use Rattle.loom_memory.specs.Residents.{is_resident, fetched};
     ghost use Rattle.loom_memory.specs.Gentle.{IsPeek, IsResting};
@@ -35,7 +36,7 @@ impl<'h, H: Host> LoomMemory<'h, H> {
         requires ready { IsReady (loom_told H.Host self.old) }
         ensures quiet { OnOk result (IsQuiet (loom_told H.Host self.old) (loom_told H.Host self.new)) }
         ensures pinned { OnOk result ((n : ℕ) → IsTrue (is_resident self.new n) → IsTrue (has_slot (loom_told H.Host self.new).slots n)) }
-        ensures fetches { OnOk result (fetched self.new ≡ fetched self.old) }
+        ensures fetches { fetched self.new ≡ fetched self.old }
         ensures minds { OnOk result (MindsCache H.Host None self.old self.new (λ k. ⊥)) }
         ensures sound { KeepsSound result (IsSound H.Host self.new) }
         ensures err { IfErr result (λ f. Called {A = Unit {0}} (loom_told H.Host self.old) (loom_told H.Host self.new) Thins (Err f)) }
@@ -59,12 +60,13 @@ impl<'h, H: Host> LoomMemory<'h, H> {
         }
     }
 
-    /// Dead objects are freed, and all others leave but those that are pinned.
+    /// Dead objects are freed, and all others leave but those that are pinned. After it nothing of the heap is dead.
     pub fn purge_all(&mut self) -> Result<(), MemFault>
         requires fit { MayCall (IsSound H.Host) (loom_told H.Host) self.old }
         ensures called { Called (loom_told H.Host self.old) (loom_told H.Host self.new) Thins result }
         ensures pinned { OnOk result ((n : ℕ) → IsTrue (is_resident self.new n) → IsTrue (has_slot (loom_told H.Host self.new).slots n)) }
-        ensures fetches { OnOk result (fetched self.new ≡ fetched self.old) }
+        ensures fetches { fetched self.new ≡ fetched self.old }
+        ensures gone { OnOk result (IsAlive (loom_told H.Host self.new)) }
         ensures minds { OnOk result (MindsCache H.Host None self.old self.new (λ k. ⊥)) }
         ensures fit { StaysCallable (IsSound H.Host) (loom_told H.Host) loom_lender (loom_outside H.Host) self.old self.new result }
     {

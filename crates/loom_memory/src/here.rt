@@ -34,7 +34,9 @@ impl<'h, H: Host> LoomMemory<'h, H> {
     ghost use Rattle.loom_memory.specs.Calls.{IsLoaded};
     ghost use Rattle.loom_memory.specs.Residents.{fetched, is_resident, words_resident};
     ghost use Rattle.loom_memory.specs.Gentle.{IsGentle};
+    ghost use Rattle.loom_memory.specs.Freed.{IsFreedFor};
     ghost use Rattle.loom_memory.specs.Below.{IsTested};
+    ghost use Rattle.loom_memory.specs.Makings.{HasThinned};
     ghost use Rattle.loom_memory.specs.Damage.{IsDamaged};
     ghost use Rattle.loom_memory.specs.Own.{BringsOne, IsSparing, MindsCache};
     ghost use Rattle.loom_memory.specs.Memory.{loom_told, loom_outside, word_in, IsSound, IsQuiet, IsCalm, IsSilent};
@@ -80,7 +82,8 @@ impl<'h, H: Host> LoomMemory<'h, H> {
         ensures leaf { IfNone result (place_of ((core_of self.now.parts).entries (word_in self.now.regs of)).state ≡ None) }
     {
         let w = self.word_of(of);
-        if self.parts.names.table.entry(Short(w)).place().is_some() {
+        let e = self.parts.names.table.used_entry(Short(w));
+        if e.place().is_some() {
             // no body is larger than the core
             chunks_never_overlap(&self.parts.segment);
             return Some(Short(w));
@@ -94,11 +97,12 @@ impl<'h, H: Host> LoomMemory<'h, H> {
         requires sound { IsSound H.Host self.old }
         requires ready { IsReady (loom_told H.Host self.old) }
         requires name { IsRef ((loom_told H.Host self.old).regs of) }
-        ensures quiet { OnOk result (IsQuiet (loom_told H.Host self.old) (loom_told H.Host self.new)) }
+        ensures thinned { OnOk result (HasThinned (loom_told H.Host self.old) (loom_told H.Host self.new)) }
         ensures sound { KeepsSound result (IsSound H.Host self.new) }
         ensures word { IfOk result (λ s. s.0 ≡ word_in self.new.regs of) }
         ensures loaded { IfOk result (λ s. IsLoaded H.Host self.new of s.0) }
         ensures core { OnOk result ((a : Access) → target_of a ≡ Some of → makes a ≡ 0 → IfBounds (loom_told H.Host self.old).bounds (HasCore (loom_told H.Host self.old) a)) }
+        ensures gone { OnOk result (IsFreedFor H.Host self.old self.new (name_at ((loom_told H.Host self.old).regs of))) }
         ensures idle { IsTrue (is_resident self.old (name_at ((loom_told H.Host self.old).regs of))) → self.new ≡ self.old }
         ensures own { IsSparing H.Host self.old self.new (name_at ((loom_told H.Host self.old).regs of)) result }
         ensures damage { IsDamaged self.old self.new (name_at ((loom_told H.Host self.old).regs of)) result }

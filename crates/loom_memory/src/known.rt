@@ -30,6 +30,7 @@ impl<'h, H: Host> LoomMemory<'h, H> {
     ghost use Rattle.loom_memory.specs.Own.{BringsOne, IsSparing, MindsCache};
     ghost use Rattle.loom_memory.specs.Residents.{fetched, is_resident};
     ghost use Rattle.loom_memory.specs.Damage.{IsDamaged};
+    ghost use Rattle.loom_memory.specs.Freed.{IsFreedBy};
     ghost use Rattle.loom_memory.specs.Known.{IsEntryOf, IsNameable, IsSpent, IsNeedBeside, IsRefusedOf, IsNaming};
 
     // The entry of a name that may get one, which it gets where one is free.
@@ -194,6 +195,7 @@ impl<'h, H: Host> LoomMemory<'h, H> {
         ensures name { OnOk result (IsRef ((loom_told H.Host self.new).regs to)) }
         ensures number { OnOk result (IsSome (int_of ((loom_told H.Host self.old).regs of)) → (loom_told H.Host self.new).regs to ≡ Ref SMALL_INTEGER) }
         ensures own { IsRef ((loom_told H.Host self.old).regs of) → IsSparing H.Host self.old self.new (name_at ((loom_told H.Host self.old).regs of)) result }
+        ensures gone { IsRef ((loom_told H.Host self.old).regs of) → OnOk result (IsFreedBy H.Host self.old self.new (name_at ((loom_told H.Host self.old).regs of)) (Class to of)) }
         ensures damage { IsRef ((loom_told H.Host self.old).regs of) → IsDamaged self.old self.new (name_at ((loom_told H.Host self.old).regs of)) result }
         ensures steady { OnOk result (IsSome (int_of ((loom_told H.Host self.old).regs of)) → HasRoom self.old.parts 0 SPARE → IsSteady H.Host self.old self.new) }
         ensures minds { OnOk result (IsSome (int_of ((loom_told H.Host self.old).regs of)) → MindsCache H.Host None self.old self.new (λ k. ⊥)) }

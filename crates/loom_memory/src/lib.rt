@@ -6,13 +6,15 @@
 //! A making (`makings`) asks for a name first, then for room on the disk, then for room in the core. Where the disk is full and eight or more
 //! were made since the last settling, dead objects are freed before it is refused (`thin`, by `purger::drain`). `settle` frees them where
 //! there is no room for eight more, so that a making before the eighth frees nothing for the disk's sake (`specs/Numbers.antt`). Where the
-//! core is short, a making and `settle` free what is dead before anything living leaves (`free_first`), and so does `purge_all`.
+//! core is short, what is dead is freed before anything living leaves (`free_first`): by a making, by `settle`, and by an access that brings an
+//! object in (`clear_first`). So does `purge_all`. `specs/Freed.antt` says what is dead then: nothing, where that was looked for.
 //!
 //! `load` is the step that each access begins with. An object in the core is found with nothing done (`here`); for a leaf room is made
 //! beside the pinned objects, and it is brought in from its record, which is read once: each name in it is below the next one, or the answer
 //! is Damaged (`holds_below`). Where the row of the access doesn't fit it answers CoreFull with that row's need
-//! (`full`), said of every access that names the object and is silent (`err`). Nothing of what is told changes meanwhile but counts of
-//! faults, and that all marks may be gone (`IsQuiet`).
+//! (`full`), said of every access that names the object and is silent (`err`). Nothing of what is told changes meanwhile but that dead objects
+//! may be gone, counts of faults, and that all marks may be gone (`HasThinned`; `IsQuiet`, where none was freed). No access reaches a dead
+//! object, so it does of the heap before what it does of the one that is left (`accessed-freed`).
 //!
 //! What is promised of the core and of Work beside what is told stands in `specs/Own.antt`, a record for each shape of call (`IsSparing` of
 //! one that changes nothing): which object is in the core, that none leaves it without need, that Work isn't touched without need, what
@@ -37,6 +39,7 @@ pub mod cache;
 pub mod ending;
 pub mod ends;
 pub mod fields;
+pub mod first;
 pub mod here;
 mod implementation;
 pub mod known;
@@ -55,6 +58,7 @@ pub mod settling;
 pub mod slots;
 pub mod stores;
 pub mod swap;
+pub mod thinned;
 
 pub use beginning::CoreTables;
 pub use memory::LoomMemory;

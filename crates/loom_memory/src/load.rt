@@ -44,7 +44,7 @@ fn room_of(p: &Parts, s: Short) -> u32
     ensures words { result ≡ room_for (core_of p.now) s.0 }
     ensures small { result < 2 ^ 18 }
 {
-    match p.names.table.entry(s).place() {
+    match p.names.table.used_entry(s).place() {
         None => 0,
         Some(place) => 4 + body_total(p, s, Addr { place }),
     }
@@ -57,7 +57,7 @@ fn leaves_of(p: &Parts, s: Short) -> u32
     ensures leaves { result ≡ entries_for (core_of p.now) s.0 }
     ensures small { result < 2 ^ 18 }
 {
-    match p.names.table.entry(s).place() {
+    match p.names.table.used_entry(s).place() {
         None => 0,
         Some(place) => {
             let _words = body_total(p, s, Addr { place });
@@ -123,6 +123,8 @@ impl<'h, H: Host> LoomMemory<'h, H> {
     ghost use Rattle.object_memory.specs.Contract.{ForBounds};
     ghost use Rattle.loom_memory.specs.Residents.{is_resident, words_resident};
     ghost use Rattle.loom_memory.specs.Gentle.{IsGentle};
+    ghost use Rattle.loom_memory.specs.Freed.{IsFreed};
+    ghost use Rattle.loom_memory.specs.Makings.{HasThinned};
     ghost use Rattle.loom_memory.specs.Below.{IsTested};
     ghost use Rattle.loom_memory.specs.Own.{BringsOne, IsBrought, MindsCache};
     ghost use Rattle.loom_memory.specs.Damage.{IsDamageOf, IsDamaged};
@@ -169,6 +171,7 @@ impl<'h, H: Host> LoomMemory<'h, H> {
         ensures sized { IfOk result (λ words. IsSized (H.tells Role.Work) (disk_of H.Host self.new.disk.host.now self.new.disk.rest name) words) }
         ensures small { IfOk result (λ words. words < 2 ^ 18) }
         ensures ledger { OnOk result (self.new.ledger ≡ self.old.ledger) }
+        ensures due { OnOk result (self.new.due ≡ self.old.due) }
         ensures gentle { OnOk result (IsGentle H.Host self.old self.new) }
         ensures damage { IfErr result (IsDamageOf self.new.disk.rest name) }
         ensures err { IfErr result (λ f. (a : Access) → IsSilent a → makes a ≡ 0 → IsRefused (loom_told H.Host self.old) (loom_told H.Host self.new) a f) }
@@ -209,6 +212,7 @@ impl<'h, H: Host> LoomMemory<'h, H> {
         ensures sized { IfOk result (λ words. IsSized (H.tells Role.Work) (disk_of H.Host self.new.disk.host.now self.new.disk.rest ((core_of self.new.parts).entries s.0).name) words) }
         ensures small { IfOk result (λ words. words < 2 ^ 18) }
         ensures ledger { OnOk result (self.new.ledger ≡ self.old.ledger) }
+        ensures due { OnOk result (self.new.due ≡ self.old.due) }
         ensures gentle { OnOk result (IsGentle H.Host self.old self.new) }
         ensures damage { IfErr result (IsDamageOf self.new.disk.rest ((core_of self.old.parts).entries s.0).name) }
         ensures err { IfErr result (λ f. (a : Access) → IsSilent a → makes a ≡ 0 → IsRefused (loom_told H.Host self.old) (loom_told H.Host self.new) a f) }
@@ -216,7 +220,7 @@ impl<'h, H: Host> LoomMemory<'h, H> {
         ensures lender { self.new.disk.host.ghost_name ≡ self.old.disk.host.ghost_name }
         ensures outside { loom_outside H.Host self.new ≡ loom_outside H.Host self.old }
     {
-        let name = self.parts.names.table.entry(s).name;
+        let name = self.parts.names.table.used_entry(s).name;
         self.look_up(name)
     }
 
@@ -277,7 +281,7 @@ impl<'h, H: Host> LoomMemory<'h, H> {
         let two = unless(b == a, leaves_of_word(p, b));
         let three = unless(either(d == a, d == b), leaves_of_word(p, d));
         Need {
-            object: p.names.table.entry(s).name.get(),
+            object: p.names.table.used_entry(s).name.get(),
             words: words + first + second + third,
             entries: ENTRIES_OF_A_CALL + (one + two + three),
         }
@@ -318,7 +322,7 @@ impl<'h, H: Host> LoomMemory<'h, H> {
         ensures outside { loom_outside H.Host self.new ≡ loom_outside H.Host self.old }
     {
         entries_are_counted(&self.parts.names.table);
-        if self.parts.names.table.entry(s).place().is_some() {
+        if self.parts.names.table.used_entry(s).place().is_some() {
             let words = room_of(&self.parts, s);
             return self.full(s, words);
         }
@@ -328,7 +332,8 @@ impl<'h, H: Host> LoomMemory<'h, H> {
         }
     }
 
-    // The object of a leaf comes in, whose record is in the buffer and has so many words.
+    // The object of a leaf comes in, whose record is in the buffer and has so many words. Where there is too little room, what is dead goes
+    // first.
     fn bring_leaf(&mut self, s: Short, words: u32) -> Result<(), MemFault>
         requires sound { IsSound H.Host self.old }
         requires ready { IsReady (loom_told H.Host self.old) }
@@ -336,7 +341,8 @@ impl<'h, H: Host> LoomMemory<'h, H> {
         requires leaf { place_of ((core_of self.old.parts).entries s.0).state ≡ None }
         requires record { IsRead (H.tells Role.Work) self.old.buf (disk_of H.Host self.old.disk.host.now self.old.disk.rest) ((core_of self.old.parts).entries s.0).name words }
         requires small { words < 2 ^ 18 }
-        ensures quiet { OnOk result (IsQuiet (loom_told H.Host self.old) (loom_told H.Host self.new)) }
+        ensures thinned { OnOk result (HasThinned (loom_told H.Host self.old) (loom_told H.Host self.new)) }
+        ensures gone { OnOk result (IsFreed H.Host self.old self.new words SPARE) }
         ensures sound { KeepsSound result (IsSound H.Host self.new) }
         ensures regs { OnOk result (self.new.regs ≡ self.old.regs) }
         ensures there { OnOk result ((at : ℕ) × (place_of ((core_of self.new.parts).entries s.0).state ≡ Some at)) }
@@ -355,7 +361,7 @@ impl<'h, H: Host> LoomMemory<'h, H> {
         if words > self.ledger.core {
             return Err(self.full(s, words));
         }
-        match self.clear(words) {
+        match self.clear_first(words) {
             Ok(enough) => {
                 if enough {
                     self.come(s);
@@ -376,7 +382,8 @@ impl<'h, H: Host> LoomMemory<'h, H> {
         requires out { 1 ≤ outside (core_of self.old.parts) s.0 }
         requires has { IsTrue (H.tells Role.Work) → Has (loom_told H.Host self.old).heap ((core_of self.old.parts).entries s.0).name }
         requires spare { SPARE ≤ spare_of self.old.parts }
-        ensures quiet { OnOk result (IsQuiet (loom_told H.Host self.old) (loom_told H.Host self.new)) }
+        ensures thinned { OnOk result (HasThinned (loom_told H.Host self.old) (loom_told H.Host self.new)) }
+        ensures gone { OnOk result (IsTrue (H.tells Role.Work) → place_of ((core_of self.old.parts).entries s.0).state ≡ None → IsFreed H.Host self.old self.new (words_at (loom_told H.Host self.old).heap ((core_of self.old.parts).entries s.0).name) SPARE) }
         ensures sound { KeepsSound result (IsSound H.Host self.new) }
         ensures regs { OnOk result (self.new.regs ≡ self.old.regs) }
         ensures there { OnOk result ((at : ℕ) × (place_of ((core_of self.new.parts).entries s.0).state ≡ Some at)) }
@@ -392,7 +399,7 @@ impl<'h, H: Host> LoomMemory<'h, H> {
         ensures lender { self.new.disk.host.ghost_name ≡ self.old.disk.host.ghost_name }
         ensures outside { loom_outside H.Host self.new ≡ loom_outside H.Host self.old }
     {
-        if self.parts.names.table.entry(s).place().is_some() {
+        if self.parts.names.table.used_entry(s).place().is_some() {
             return Ok(());
         }
         match self.look(s) {
@@ -401,12 +408,13 @@ impl<'h, H: Host> LoomMemory<'h, H> {
         }
     }
 
-    // Brings the object of a register into the core, and leaves 26 entries free.
+    // Brings the object of a register into the core, and leaves 26 entries free. What is dead goes before anything living.
     pub(crate) fn load_with_room(&mut self, of: Reg) -> Result<Short, MemFault>
         requires sound { IsSound H.Host self.old }
         requires ready { IsReady (loom_told H.Host self.old) }
         requires name { IsRef ((loom_told H.Host self.old).regs of) }
-        ensures quiet { OnOk result (IsQuiet (loom_told H.Host self.old) (loom_told H.Host self.new)) }
+        ensures thinned { OnOk result (HasThinned (loom_told H.Host self.old) (loom_told H.Host self.new)) }
+        ensures gone { OnOk result (IsTrue (H.tells Role.Work) → place_of ((core_of self.old.parts).entries (word_in self.old.regs of)).state ≡ None → IsFreed H.Host self.old self.new (words_at (loom_told H.Host self.old).heap (name_at ((loom_told H.Host self.old).regs of))) SPARE) }
         ensures sound { KeepsSound result (IsSound H.Host self.new) }
         ensures word { IfOk result (λ s. s.0 ≡ word_in self.new.regs of) }
         ensures loaded { IfOk result (λ s. IsLoaded H.Host self.new of s.0) }
@@ -426,7 +434,7 @@ impl<'h, H: Host> LoomMemory<'h, H> {
         ensures outside { loom_outside H.Host self.new ≡ loom_outside H.Host self.old }
     {
         let s = Short(self.regs[of.index()]);
-        match self.clear(0) {
+        match self.clear_first(0) {
             Ok(enough) => {
                 if enough {
                     return match self.bring(s) {

@@ -68,6 +68,7 @@ impl<'h, H: Host> LoomMemory<'h, H> {
         ensures err { IsFullMaking (loom_told H.Host self.old) (loom_told H.Host self.new) words result }
         ensures other { IsNotFull result }
         ensures kept { (self.new.disk ≡ self.old.disk) × (self.new.ledger.held ≡ self.old.ledger.held) }
+        ensures fetches { fetched self.new ≡ fetched self.old }
         ensures spared { IsSpared H.Host self.old self.new }
         ensures lender { self.new.disk.host.ghost_name ≡ self.old.disk.host.ghost_name }
         ensures outside { loom_outside H.Host self.new ≡ loom_outside H.Host self.old }
@@ -86,6 +87,7 @@ impl<'h, H: Host> LoomMemory<'h, H> {
         ensures pins { OnOk result (self.new.pinned ≡ self.old.pinned) }
         ensures ledger { OnOk result (self.new.ledger ≡ self.old.ledger) }
         ensures limit { OnOk result (disk_room self.new.disk.rest ≡ disk_room self.old.disk.rest) }
+        ensures fetches { fetched self.new ≡ fetched self.old }
         ensures room { IfOk result (λ enough. IsTrue enough → (words ≤ largest_of self.new.parts.segment) × (SPARE ≤ spare_of self.new.parts)) }
         ensures short { IfOk result (λ enough. enough ≡ false → IsShort self.new.parts self.new.pinned.a self.new.pinned.b self.new.pinned.d words SPARE) }
         ensures resting { OnOk result (HasRoom self.old.parts words SPARE → IsResting self.old self.new) }
@@ -137,7 +139,7 @@ impl<'h, H: Host> LoomMemory<'h, H> {
         ensures entry { IfSome result (λ s. IsEntryOf (core_of self.new.parts) s.0 name) }
         ensures there { IfSome result (λ s. IsTrue (is_resident self.new name)) }
         ensures remains { IfSome result (λ s. Remains (core_of self.old.parts) (core_of self.new.parts)) }
-        ensures fetches { IfSome result (λ s. fetched self.new ≡ fetched self.old) }
+        ensures fetches { fetched self.new ≡ fetched self.old }
         ensures cached { IfSome result (λ s. KeepsCache H.Host self.old self.new) }
         ensures minds { IfSome result (λ s. MindsCache H.Host None self.old self.new (λ k. k ≡ name)) }
         ensures sound { IfSome result (λ s. IsSound H.Host self.new) }
@@ -149,6 +151,7 @@ impl<'h, H: Host> LoomMemory<'h, H> {
         match make_object(&mut self.parts, name, s, kind, len, header) {
             Some(new) => {
                 self.ledger.count_making();
+                self.thinned = false;
                 Some(new)
             }
             None => None,
@@ -177,7 +180,7 @@ impl<'h, H: Host> LoomMemory<'h, H> {
         requires spare { 2 ≤ spare_of self.old.parts }
         ensures made { OnOk result (HasMade (loom_told H.Host self.old) (loom_told H.Host self.new) to class (making_of kind len header)) }
         ensures there { OnOk result (IsTrue (is_resident self.new (name_at ((loom_told H.Host self.new).regs to)))) }
-        ensures fetches { OnOk result (fetched self.new ≡ fetched self.old) }
+        ensures fetches { fetched self.new ≡ fetched self.old }
         ensures resting { OnOk result (IsResting self.old self.new) }
         ensures cached { OnOk result (KeepsCache H.Host self.old self.new) }
         ensures minds { OnOk result (MindsCache H.Host None self.old self.new (λ k. (loom_told H.Host self.new).regs to ≡ Ref k)) }
@@ -222,7 +225,7 @@ impl<'h, H: Host> LoomMemory<'h, H> {
         requires len { len ≤ most_len kind }
         ensures made { OnOk result (HasMade (loom_told H.Host self.old) (loom_told H.Host self.new) to class (making_of kind len header)) }
         ensures there { OnOk result (IsTrue (is_resident self.new (name_at ((loom_told H.Host self.new).regs to)))) }
-        ensures fetches { OnOk result (fetched self.new ≡ fetched self.old) }
+        ensures fetches { fetched self.new ≡ fetched self.old }
         ensures resting { OnOk result (HasRoom self.old.parts (words_for kind len (literal_count (int_of_short header)) + HEADER) SPARE → IsResting self.old self.new) }
         ensures cached { OnOk result (HasRoom self.old.parts (words_for kind len (literal_count (int_of_short header)) + HEADER) SPARE → KeepsCache H.Host self.old self.new) }
         ensures minds { OnOk result (MindsCache H.Host None self.old self.new (λ k. (loom_told H.Host self.new).regs to ≡ Ref k)) }
@@ -269,6 +272,7 @@ impl<'h, H: Host> LoomMemory<'h, H> {
     ghost use Rattle.object_memory.specs.Contract.{Accessed, IfBounds, KeepsSound, MayDo};
     ghost use Rattle.object_memory.specs.Fit.{MayCall, StaysCallable};
     ghost use Rattle.loom_memory.specs.Memory.{loom_told, loom_outside, loom_lender, IsSound};
+    ghost use Rattle.loom_memory.specs.Freed.{IsFreed};
     ghost use Rattle.loom_memory.specs.Makings.{HasThinned, IfNameless, IsNameless, IsRefusedMaking, OnCoreFull};
     ghost use Rattle.loom_memory.specs.Gentle.{IsSpared};
     ghost use Rattle.loom_memory.specs.Own.{HasAllFor, HasSpaceFor, IsAskedLast, IsSparingMaking, IsUndrained, MindsCache};
@@ -285,6 +289,7 @@ impl<'h, H: Host> LoomMemory<'h, H> {
         ensures sound { IsSound H.Host self.new }
         ensures err { IsRefusedMaking (loom_told H.Host self.old) (loom_told H.Host self.new) result }
         ensures full { OnCoreFull result ⊥ }
+        ensures fetches { fetched self.new ≡ fetched self.old }
         ensures spared { IsSpared H.Host self.old self.new }
         ensures lender { self.new.disk.host.ghost_name ≡ self.old.disk.host.ghost_name }
         ensures outside { loom_outside H.Host self.new ≡ loom_outside H.Host self.old }
@@ -307,6 +312,7 @@ impl<'h, H: Host> LoomMemory<'h, H> {
         ensures sound { IsSound H.Host self.new }
         ensures told { loom_told H.Host self.new ≡ refused (loom_told H.Host self.old) result }
         ensures full { result ≡ WorkFull (self.old.ledger.held + 1) (disk_room self.old.disk.rest) }
+        ensures fetches { fetched self.new ≡ fetched self.old }
         ensures later { (loom_told H.Host self.old).refusals ≤ counted (loom_told H.Host self.old).refusals }
         ensures lender { self.new.disk.host.ghost_name ≡ self.old.disk.host.ghost_name }
         ensures outside { loom_outside H.Host self.new ≡ loom_outside H.Host self.old }
@@ -325,7 +331,7 @@ impl<'h, H: Host> LoomMemory<'h, H> {
         ensures sound { KeepsSound result (IsSound H.Host self.new) }
         ensures held { OnOk result (self.new.ledger.held < disk_room self.new.disk.rest) }
         ensures next { OnOk result (self.new.ledger.next ≡ self.old.ledger.next) }
-        ensures fetches { OnOk result (fetched self.new ≡ fetched self.old) }
+        ensures fetches { fetched self.new ≡ fetched self.old }
         ensures minds { OnOk result (IsTrue (H.tells Role.Work) → MindsCache H.Host None self.old self.new (λ k. ⊥)) }
         ensures bodies { OnOk result (IsTrue (H.tells Role.Work) → KeepsHeld (core_of self.old.parts) (core_of self.new.parts) (loom_told H.Host self.new).heap) }
         ensures room { OnOk result ((words : ℕ) → HasRoom self.old.parts words SPARE → HasRoom self.new.parts words SPARE) }
@@ -353,7 +359,7 @@ impl<'h, H: Host> LoomMemory<'h, H> {
         ensures sound { KeepsSound result (IsSound H.Host self.new) }
         ensures held { OnOk result (self.new.ledger.held < disk_room self.new.disk.rest) }
         ensures next { OnOk result (self.new.ledger.next ≡ self.old.ledger.next) }
-        ensures fetches { OnOk result (fetched self.new ≡ fetched self.old) }
+        ensures fetches { fetched self.new ≡ fetched self.old }
         ensures minds { OnOk result (IsTrue (H.tells Role.Work) → MindsCache H.Host None self.old self.new (λ k. ⊥)) }
         ensures roomy { OnOk result (self.old.ledger.held < disk_room self.old.disk.rest → self.new ≡ self.old) }
         ensures early { OnOk result (self.old.ledger.made < MAKINGS → self.new ≡ self.old) }
@@ -383,10 +389,11 @@ impl<'h, H: Host> LoomMemory<'h, H> {
         ensures sound { KeepsSound result (IsSound H.Host self.new) }
         ensures held { OnOk result (self.new.ledger.held < disk_room self.new.disk.rest) }
         ensures next { OnOk result (self.new.ledger.next ≡ self.old.ledger.next) }
-        ensures fetches { OnOk result (fetched self.new ≡ fetched self.old) }
+        ensures fetches { fetched self.new ≡ fetched self.old }
         ensures minds { OnOk result (IsTrue (H.tells Role.Work) → MindsCache H.Host None self.old self.new (λ k. ⊥)) }
         ensures roomy { OnOk result (self.old.ledger.held < disk_room self.old.disk.rest → HasRoom self.old.parts words SPARE → self.new ≡ self.old) }
         ensures early { OnOk result (self.old.ledger.made < MAKINGS → HasRoom self.old.parts words SPARE → self.new ≡ self.old) }
+        ensures gone { OnOk result (self.old.ledger.held < disk_room self.old.disk.rest → IsFreed H.Host self.old self.new words SPARE) }
         ensures bodies { OnOk result (IsTrue (H.tells Role.Work) → KeepsHeld (core_of self.old.parts) (core_of self.new.parts) (loom_told H.Host self.new).heap) }
         ensures room { OnOk result ((words : ℕ) → HasRoom self.old.parts words SPARE → HasRoom self.new.parts words SPARE) }
         ensures err { IfErr result (IsRefusedMaking (loom_told H.Host self.old) (loom_told H.Host self.new)) }
@@ -421,7 +428,7 @@ impl<'h, H: Host> LoomMemory<'h, H> {
         ensures access { Accessed (loom_told H.Host self.old) (loom_told H.Host self.new) (Make to class (making_of kind len header)) (λ _. Nothing) result }
         ensures name { OnOk result (IsRef ((loom_told H.Host self.new).regs to)) }
         ensures there { OnOk result (IsTrue (is_resident self.new (name_at ((loom_told H.Host self.new).regs to)))) }
-        ensures fetches { OnOk result (fetched self.new ≡ fetched self.old) }
+        ensures fetches { fetched self.new ≡ fetched self.old }
         ensures early { IsTrue (H.tells Role.Work) → IfBounds (loom_told H.Host self.old).bounds (λ b. b.made < MAKINGS
             → HasRoom self.old.parts (4 + body_words (body_made (making_of kind len header))) SPARE
             → OnOk result ((loom_told H.Host self.new).heap ≡ heap_after (loom_told H.Host self.old).heap (loom_told H.Host self.old).regs (Make to class (making_of kind len header)))) }
@@ -444,6 +451,7 @@ impl<'h, H: Host> LoomMemory<'h, H> {
         requires ready { IsReady (loom_told H.Host self.old) }
         requires cause { IsNameless (loom_told H.Host self.old) f }
         ensures sound { IsSound H.Host self.new }
+        ensures fetches { fetched self.new ≡ fetched self.old }
         ensures err { IfNameless (loom_told H.Host self.old) (loom_told H.Host self.new) result }
         ensures same { result ≡ f }
         ensures spared { IsSpared H.Host self.old self.new }
@@ -468,7 +476,7 @@ impl<'h, H: Host> LoomMemory<'h, H> {
         ensures access { Accessed (loom_told H.Host self.old) (loom_told H.Host self.new) (Make to class (making_of kind len header)) (λ _. Nothing) result }
         ensures name { OnOk result (IsRef ((loom_told H.Host self.new).regs to)) }
         ensures there { OnOk result (IsTrue (is_resident self.new (name_at ((loom_told H.Host self.new).regs to)))) }
-        ensures fetches { OnOk result (fetched self.new ≡ fetched self.old) }
+        ensures fetches { fetched self.new ≡ fetched self.old }
         ensures early { IsTrue (H.tells Role.Work) → IfBounds (loom_told H.Host self.old).bounds (λ b. b.made < MAKINGS
             → HasRoom self.old.parts (4 + body_words (body_made (making_of kind len header))) SPARE
             → OnOk result ((loom_told H.Host self.new).heap ≡ heap_after (loom_told H.Host self.old).heap (loom_told H.Host self.old).regs (Make to class (making_of kind len header)))) }
@@ -500,7 +508,7 @@ impl<'h, H: Host> LoomMemory<'h, H> {
         ensures access { Accessed (loom_told H.Host self.old) (loom_told H.Host self.new) (Make to class (OfPointers n)) (λ _. Nothing) result }
         ensures name { OnOk result (IsRef ((loom_told H.Host self.new).regs to)) }
         ensures there { OnOk result (IsTrue (is_resident self.new (name_at ((loom_told H.Host self.new).regs to)))) }
-        ensures fetches { OnOk result (fetched self.new ≡ fetched self.old) }
+        ensures fetches { fetched self.new ≡ fetched self.old }
         ensures early { IsTrue (H.tells Role.Work) → IfBounds (loom_told H.Host self.old).bounds (λ b. b.made < MAKINGS
             → HasRoom self.old.parts (4 + body_words (body_made (OfPointers n))) SPARE
             → OnOk result ((loom_told H.Host self.new).heap ≡ heap_after (loom_told H.Host self.old).heap (loom_told H.Host self.old).regs (Make to class (OfPointers n)))) }
@@ -521,7 +529,7 @@ impl<'h, H: Host> LoomMemory<'h, H> {
         ensures access { Accessed (loom_told H.Host self.old) (loom_told H.Host self.new) (Make to class (OfWords n)) (λ _. Nothing) result }
         ensures name { OnOk result (IsRef ((loom_told H.Host self.new).regs to)) }
         ensures there { OnOk result (IsTrue (is_resident self.new (name_at ((loom_told H.Host self.new).regs to)))) }
-        ensures fetches { OnOk result (fetched self.new ≡ fetched self.old) }
+        ensures fetches { fetched self.new ≡ fetched self.old }
         ensures early { IsTrue (H.tells Role.Work) → IfBounds (loom_told H.Host self.old).bounds (λ b. b.made < MAKINGS
             → HasRoom self.old.parts (4 + body_words (body_made (OfWords n))) SPARE
             → OnOk result ((loom_told H.Host self.new).heap ≡ heap_after (loom_told H.Host self.old).heap (loom_told H.Host self.old).regs (Make to class (OfWords n)))) }
@@ -542,7 +550,7 @@ impl<'h, H: Host> LoomMemory<'h, H> {
         ensures access { Accessed (loom_told H.Host self.old) (loom_told H.Host self.new) (Make to class (OfBytes n)) (λ _. Nothing) result }
         ensures name { OnOk result (IsRef ((loom_told H.Host self.new).regs to)) }
         ensures there { OnOk result (IsTrue (is_resident self.new (name_at ((loom_told H.Host self.new).regs to)))) }
-        ensures fetches { OnOk result (fetched self.new ≡ fetched self.old) }
+        ensures fetches { fetched self.new ≡ fetched self.old }
         ensures early { IsTrue (H.tells Role.Work) → IfBounds (loom_told H.Host self.old).bounds (λ b. b.made < MAKINGS
             → HasRoom self.old.parts (4 + body_words (body_made (OfBytes n))) SPARE
             → OnOk result ((loom_told H.Host self.new).heap ≡ heap_after (loom_told H.Host self.old).heap (loom_told H.Host self.old).regs (Make to class (OfBytes n)))) }
@@ -569,7 +577,7 @@ impl<'h, H: Host> LoomMemory<'h, H> {
         ensures access { Accessed (loom_told H.Host self.old) (loom_told H.Host self.new) (Make to class (OfMethod header code)) (λ _. Nothing) result }
         ensures name { OnOk result (IsRef ((loom_told H.Host self.new).regs to)) }
         ensures there { OnOk result (IsTrue (is_resident self.new (name_at ((loom_told H.Host self.new).regs to)))) }
-        ensures fetches { OnOk result (fetched self.new ≡ fetched self.old) }
+        ensures fetches { fetched self.new ≡ fetched self.old }
         ensures early { IsTrue (H.tells Role.Work) → IfBounds (loom_told H.Host self.old).bounds (λ b. b.made < MAKINGS
             → HasRoom self.old.parts (4 + body_words (body_made (OfMethod header code))) SPARE
             → OnOk result ((loom_told H.Host self.new).heap ≡ heap_after (loom_told H.Host self.old).heap (loom_told H.Host self.old).regs (Make to class (OfMethod header code)))) }

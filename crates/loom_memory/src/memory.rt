@@ -10,6 +10,7 @@ ghost use Rattle.disk_objects.specs.Disk.{disk_room};
 ghost use Rattle.leaf_lambda.specs.Parts.{core_of, spare_of};
 
 use crate::ledger::Ledger;
+use crate::thinned::note_gone;
 use disk_objects::DiskObjects;
 use leaf_lambda::Parts;
 use leaf_lambda::fields::{drop_word, hold_word};
@@ -32,8 +33,10 @@ pub struct LoomMemory<'h, H: Host> {
     pub(crate) pinned: Pinned,
     // Where in the table what goes is looked for next.
     pub(crate) hand: u16,
-    // The next name from which on what is dead is looked for where room is short. No clause rests on it.
+    // The next name from which on what is dead is looked for where room is short (`soon` of `IsSound`).
     pub(crate) due: u32,
+    // Set where nothing is dead, and only as long as nothing can have died.
+    pub(crate) thinned: bool,
     pub(crate) ledger: Ledger,
 }
 
@@ -58,6 +61,7 @@ impl<'h, H: Host> LoomMemory<'h, H> {
         let old = self.regs[to.index()];
         self.regs[to.index()] = w;
         drop_word(&mut self.parts, old);
+        note_gone(&self.parts, &mut self.thinned, old);
     }
 }
 
@@ -66,6 +70,7 @@ impl<'h, H: Host> LoomMemory<'h, H> {
     ghost use Rattle.loom_memory.specs.Gentle.{IsResting, IsSpared};
     ghost use Rattle.loom_memory.specs.Own.{KeepsCache, MindsCache};
     ghost use Rattle.loom_memory.specs.Residents.{fetched};
+    ghost use Rattle.loom_memory.specs.Thinned.{is_thinned};
     ghost use Rattle.long_names.specs.State.{IsRef};
     ghost use Rattle.long_names.specs.Counting.{counted};
     ghost use Rattle.long_names.specs.Access.{Access, target_of};
@@ -91,6 +96,7 @@ impl<'h, H: Host> LoomMemory<'h, H> {
         ensures needless { HasRoom self.old.parts words entries → IsResting self.old self.new }
         ensures cached { HasRoom self.old.parts words entries → KeepsCache H.Host self.old self.new }
         ensures minds { Undisturbed result (MindsCache H.Host None self.old self.new (λ k. ⊥)) }
+        ensures thinned { is_thinned self.new ≡ is_thinned self.old }
         ensures buf { self.new.buf ≡ self.old.buf }
         ensures work { IsWorkOnly H.Host self.old.disk.host.now self.new.disk.host.now }
         ensures limit { disk_room self.new.disk.rest ≡ disk_room self.old.disk.rest }
@@ -119,6 +125,7 @@ impl<'h, H: Host> LoomMemory<'h, H> {
         ensures kept { (self.new.disk ≡ self.old.disk) × (self.new.ledger.held ≡ self.old.ledger.held) }
         ensures later { (loom_told H.Host self.old).refusals ≤ counted (loom_told H.Host self.old).refusals }
         ensures spared { IsSpared H.Host self.old self.new }
+        ensures thinned { is_thinned self.new ≡ is_thinned self.old }
         ensures buf { self.new.buf ≡ self.old.buf }
         ensures rest { self.new.disk.rest ≡ self.old.disk.rest }
         ensures brings { fetched self.new ≡ fetched self.old }

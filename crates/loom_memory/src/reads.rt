@@ -28,6 +28,7 @@ impl<'h, H: Host> LoomMemory<'h, H> {
     ghost use Rattle.loom_memory.specs.Residents.{fetched, is_resident};
     ghost use Rattle.loom_memory.specs.Own.{BringsOne, IsSparing};
     ghost use Rattle.loom_memory.specs.Damage.{IsDamaged};
+    ghost use Rattle.loom_memory.specs.Freed.{IsFreedBy, IsFreedFor};
 
     // Refuses: the object of an entry hasn't what an access asks for. Where the heap is told that can't be.
     #[cold]
@@ -42,7 +43,7 @@ impl<'h, H: Host> LoomMemory<'h, H> {
         ensures lender { self.new.disk.host.ghost_name ≡ self.old.disk.host.ghost_name }
         ensures outside { loom_outside H.Host self.new ≡ loom_outside H.Host self.old }
     {
-        let name = self.parts.names.table.entry(s).name;
+        let name = self.parts.names.table.used_entry(s).name;
         self.wrong(name)
     }
 
@@ -54,13 +55,14 @@ impl<'h, H: Host> LoomMemory<'h, H> {
         ensures access { Accessed (loom_told H.Host self.old) (loom_told H.Host self.new) (Class to of) (λ _. Nothing) result }
         ensures name { OnOk result (IsRef ((loom_told H.Host self.new).regs to)) }
         ensures own { IsSparing H.Host self.old self.new (name_at ((loom_told H.Host self.old).regs of)) result }
+        ensures gone { OnOk result (IsFreedBy H.Host self.old self.new (name_at ((loom_told H.Host self.old).regs of)) (Class to of)) }
         ensures damage { IsDamaged self.old self.new (name_at ((loom_told H.Host self.old).regs of)) result }
         ensures brings { BringsOne self.old self.new (is_resident self.old (name_at ((loom_told H.Host self.old).regs of)) ≡ false) }
         ensures fit { StaysCallable (IsSound H.Host) (loom_told H.Host) loom_lender (loom_outside H.Host) self.old self.new result }
     {
         match self.load(of) {
             Ok(s) => {
-                let e = self.parts.names.table.entry(s);
+                let e = self.parts.names.table.used_entry(s);
                 self.put_word(to, e.class.0);
                 Ok(())
             }
@@ -75,12 +77,13 @@ impl<'h, H: Host> LoomMemory<'h, H> {
         requires may { MayDo (loom_told H.Host self.old) (KindOf of) }
         ensures access { Accessed (loom_told H.Host self.old) (loom_told H.Host self.new) (KindOf of) OfKind result }
         ensures own { IsSparing H.Host self.old self.new (name_at ((loom_told H.Host self.old).regs of)) result }
+        ensures gone { OnOk result (IsFreedFor H.Host self.old self.new (name_at ((loom_told H.Host self.old).regs of))) }
         ensures damage { IsDamaged self.old self.new (name_at ((loom_told H.Host self.old).regs of)) result }
         ensures brings { BringsOne self.old self.new (is_resident self.old (name_at ((loom_told H.Host self.old).regs of)) ≡ false) }
         ensures fit { StaysCallable (IsSound H.Host) (loom_told H.Host) loom_lender (loom_outside H.Host) self.old self.new result }
     {
         match self.load(of) {
-            Ok(s) => Ok(self.parts.names.table.entry(s).kind),
+            Ok(s) => Ok(self.parts.names.table.used_entry(s).kind),
             Err(f) => Err(f),
         }
     }
@@ -93,12 +96,13 @@ impl<'h, H: Host> LoomMemory<'h, H> {
         ensures access { Accessed (loom_told H.Host self.old) (loom_told H.Host self.new) (Length of) OfNumber result }
         ensures bound { IfOk result (λ n. n < MOST_FIELDS + 1) }
         ensures own { IsSparing H.Host self.old self.new (name_at ((loom_told H.Host self.old).regs of)) result }
+        ensures gone { OnOk result (IsFreedFor H.Host self.old self.new (name_at ((loom_told H.Host self.old).regs of))) }
         ensures damage { IsDamaged self.old self.new (name_at ((loom_told H.Host self.old).regs of)) result }
         ensures brings { BringsOne self.old self.new (is_resident self.old (name_at ((loom_told H.Host self.old).regs of)) ≡ false) }
         ensures fit { StaysCallable (IsSound H.Host) (loom_told H.Host) loom_lender (loom_outside H.Host) self.old self.new result }
     {
         match self.load(of) {
-            Ok(s) => Ok(self.parts.names.table.entry(s).len),
+            Ok(s) => Ok(self.parts.names.table.used_entry(s).len),
             Err(f) => Err(f),
         }
     }
@@ -127,6 +131,7 @@ impl<'h, H: Host> LoomMemory<'h, H> {
         ensures range { IfOk result IsSmallInteger }
         ensures literals { IfOk result (λ header. IsTrue (loom_told H.Host self.old).tells → part_at (loom_told H.Host self.old).heap ((loom_told H.Host self.old).regs of) (λ b. Some (length (fields_of b))) ≡ Some (literal_count header)) }
         ensures own { IsSparing H.Host self.old self.new (name_at ((loom_told H.Host self.old).regs of)) result }
+        ensures gone { OnOk result (IsFreedFor H.Host self.old self.new (name_at ((loom_told H.Host self.old).regs of))) }
         ensures damage { IsDamaged self.old self.new (name_at ((loom_told H.Host self.old).regs of)) result }
         ensures brings { BringsOne self.old self.new (is_resident self.old (name_at ((loom_told H.Host self.old).regs of)) ≡ false) }
         ensures fit { StaysCallable (IsSound H.Host) (loom_told H.Host) loom_lender (loom_outside H.Host) self.old self.new result }
@@ -146,6 +151,7 @@ impl<'h, H: Host> LoomMemory<'h, H> {
         requires may { MayDo (loom_told H.Host self.old) (Word of i) }
         ensures access { Accessed (loom_told H.Host self.old) (loom_told H.Host self.new) (Word of i) OfNumber result }
         ensures own { IsSparing H.Host self.old self.new (name_at ((loom_told H.Host self.old).regs of)) result }
+        ensures gone { OnOk result (IsFreedFor H.Host self.old self.new (name_at ((loom_told H.Host self.old).regs of))) }
         ensures damage { IsDamaged self.old self.new (name_at ((loom_told H.Host self.old).regs of)) result }
         ensures brings { BringsOne self.old self.new (is_resident self.old (name_at ((loom_told H.Host self.old).regs of)) ≡ false) }
         ensures fit { StaysCallable (IsSound H.Host) (loom_told H.Host) loom_lender (loom_outside H.Host) self.old self.new result }
@@ -165,6 +171,7 @@ impl<'h, H: Host> LoomMemory<'h, H> {
         requires may { MayDo (loom_told H.Host self.old) (Byte of i) }
         ensures access { Accessed (loom_told H.Host self.old) (loom_told H.Host self.new) (Byte of i) OfNumber result }
         ensures own { IsSparing H.Host self.old self.new (name_at ((loom_told H.Host self.old).regs of)) result }
+        ensures gone { OnOk result (IsFreedFor H.Host self.old self.new (name_at ((loom_told H.Host self.old).regs of))) }
         ensures damage { IsDamaged self.old self.new (name_at ((loom_told H.Host self.old).regs of)) result }
         ensures brings { BringsOne self.old self.new (is_resident self.old (name_at ((loom_told H.Host self.old).regs of)) ≡ false) }
         ensures fit { StaysCallable (IsSound H.Host) (loom_told H.Host) loom_lender (loom_outside H.Host) self.old self.new result }
@@ -200,6 +207,7 @@ impl<'h, H: Host> LoomMemory<'h, H> {
         requires may { MayDo (loom_told H.Host self.old) (ReadWords of at (length out.old)) }
         ensures access { Accessed (loom_told H.Host self.old) (loom_told H.Host self.new) (ReadWords of at (length out.old)) (λ _. OfRun out.new) result }
         ensures own { IsSparing H.Host self.old self.new (name_at ((loom_told H.Host self.old).regs of)) result }
+        ensures gone { OnOk result (IsFreedFor H.Host self.old self.new (name_at ((loom_told H.Host self.old).regs of))) }
         ensures damage { IsDamaged self.old self.new (name_at ((loom_told H.Host self.old).regs of)) result }
         ensures brings { BringsOne self.old self.new (is_resident self.old (name_at ((loom_told H.Host self.old).regs of)) ≡ false) }
         ensures fit { StaysCallable (IsSound H.Host) (loom_told H.Host) loom_lender (loom_outside H.Host) self.old self.new result }
@@ -221,6 +229,7 @@ impl<'h, H: Host> LoomMemory<'h, H> {
         requires may { MayDo (loom_told H.Host self.old) (ReadBytes of at (length out.old)) }
         ensures access { Accessed (loom_told H.Host self.old) (loom_told H.Host self.new) (ReadBytes of at (length out.old)) (λ _. OfRun out.new) result }
         ensures own { IsSparing H.Host self.old self.new (name_at ((loom_told H.Host self.old).regs of)) result }
+        ensures gone { OnOk result (IsFreedFor H.Host self.old self.new (name_at ((loom_told H.Host self.old).regs of))) }
         ensures damage { IsDamaged self.old self.new (name_at ((loom_told H.Host self.old).regs of)) result }
         ensures brings { BringsOne self.old self.new (is_resident self.old (name_at ((loom_told H.Host self.old).regs of)) ≡ false) }
         ensures fit { StaysCallable (IsSound H.Host) (loom_told H.Host) loom_lender (loom_outside H.Host) self.old self.new result }

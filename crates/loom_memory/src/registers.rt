@@ -1,5 +1,5 @@
 // Values in registers.
-ghost use Rattle.std.specs.Prelude.{◌≡◌, ◌≢◌, ◌/◌, ◌↔◌, [], true, IsTrue, IfSome};
+ghost use Rattle.std.specs.Prelude.{◌≡◌, ◌≢◌, ◌/◌, ◌%◌, ◌↔◌, [], true, IsTrue, IfSome};
 ghost use Rattle.object_table.specs.Entries.{is_short, is_used};
 ghost use Rattle.core_view.specs.Words.{meant};
 ghost use Rattle.leaf_lambda.specs.Parts.{core_of};
@@ -43,7 +43,7 @@ impl<'h, H: Host> LoomMemory<'h, H> {
     {
         let w = self.word_of(r);
         if is_name(w) {
-            return Value::from(self.parts.names.table.entry(Short(w)).name);
+            return Value::from(self.parts.names.table.used_entry(Short(w)).name);
         }
         Value::Int(int_short(w))
     }
@@ -81,6 +81,38 @@ impl<'h, H: Host> LoomMemory<'h, H> {
         self.replace_word(to, w);
     }
 
+    // The number 0 in a register, out of line: most registers that are cleared have it already, and the way of all other words stays short.
+    #[cold]
+    #[inline(never)]
+    fn put_apart(&mut self, to: Reg)
+        requires { IsSound H.Host self.old }
+        ensures told { loom_told H.Host self.new ≡ record (loom_told H.Host self.old) { regs = set_register (loom_told H.Host self.old).regs to (meant (core_of self.old.parts).entries [] 0 1) } }
+        ensures sound { IsSound H.Host self.new }
+        ensures steady { IsSteady H.Host self.old self.new }
+        ensures lender { self.new.disk.host.ghost_name ≡ self.old.disk.host.ghost_name }
+        ensures outside { loom_outside H.Host self.new ≡ loom_outside H.Host self.old }
+    {
+        self.put_word(to, 1);
+    }
+
+    // The word of a number in a register.
+    #[inline(always)]
+    fn put_number(&mut self, to: Reg, w: u16)
+        requires sound { IsSound H.Host self.old }
+        requires odd { w % 2 ≡ 1 }
+        ensures told { loom_told H.Host self.new ≡ record (loom_told H.Host self.old) { regs = set_register (loom_told H.Host self.old).regs to (meant (core_of self.old.parts).entries [] 0 w) } }
+        ensures sound { IsSound H.Host self.new }
+        ensures steady { IsSteady H.Host self.old self.new }
+        ensures lender { self.new.disk.host.ghost_name ≡ self.old.disk.host.ghost_name }
+        ensures outside { loom_outside H.Host self.new ≡ loom_outside H.Host self.old }
+    {
+        if w == 1 {
+            self.put_apart(to);
+            return;
+        }
+        self.put_word(to, w);
+    }
+
     /// The register holds this number, from -16384 to 16383 (integerObjectOf:).
     #[inline(always)]
     pub fn int(&mut self, to: Reg, v: i16)
@@ -94,7 +126,7 @@ impl<'h, H: Host> LoomMemory<'h, H> {
         if self.word_of(to) == w {
             return;
         }
-        self.put_word(to, w);
+        self.put_number(to, w);
     }
 
     /// The register is copied.

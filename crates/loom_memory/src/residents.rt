@@ -28,7 +28,7 @@ impl<'h, H: Host> LoomMemory<'h, H> {
         ensures { result ≡ is_resident self.now name }
     {
         match self.parts.names.resident.find(name) {
-            Some(s) => self.parts.names.table.entry(s).place().is_some(),
+            Some(s) => self.parts.names.table.used_entry(s).place().is_some(),
             None => false,
         }
     }

@@ -37,6 +37,7 @@ impl<'h, H: Host> LoomMemory<'h, H> {
     ghost use Rattle.long_names.specs.Counting.{Rose};
     ghost use Rattle.long_names.specs.State.{name_at};
     ghost use Rattle.loom_memory.specs.Damage.{IsDamaged, IsUndamaged};
+    ghost use Rattle.loom_memory.specs.Freed.{IsFreedBy};
     ghost use Rattle.loom_memory.specs.Own.{BringsOne, IsHeard};
     ghost use Rattle.loom_memory.specs.Residents.{fetched, is_resident};
     ghost use Rattle.long_names.specs.Access.{Say, Nothing, said_by};
@@ -171,13 +172,14 @@ impl<'h, H: Host> LoomMemory<'h, H> {
         requires may { MayDo (loom_told H.Host self.old) (Say of) }
         ensures access { Accessed (loom_told H.Host self.old) (loom_told H.Host self.new) (Say of) (λ _. Nothing) result }
         ensures own { OnOk result (IsHeard H.Host self.old self.new (name_at ((loom_told H.Host self.old).regs of))) }
+        ensures gone { OnOk result (IsFreedBy H.Host self.old self.new (name_at ((loom_told H.Host self.old).regs of)) (Say of)) }
         ensures damage { IsDamaged self.old self.new (name_at ((loom_told H.Host self.old).regs of)) result }
         ensures brings { BringsOne self.old self.new (is_resident self.old (name_at ((loom_told H.Host self.old).regs of)) ≡ false) }
         ensures fit { StaysCallable (IsSound H.Host) (loom_told H.Host) loom_lender (loom_outside H.Host) self.old self.new result }
     {
         match self.load(of) {
             Ok(s) => {
-                let e = self.parts.names.table.entry(s);
+                let e = self.parts.names.table.used_entry(s);
                 if has_text(e.kind) {
                     return self.say_text(of, s, e.len);
                 }

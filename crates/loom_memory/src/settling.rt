@@ -1,9 +1,9 @@
 // Between bytecodes: dead objects go where the disk is nearly full, and entries are freed for what comes.
-ghost use Rattle.std.specs.Prelude.{◌≡◌, ◌⊎◌, ◌+◌, ◌≤◌, ◌<◌, ℕ, Some, None, true, false, IsTrue, OnOk, IfErr};
+ghost use Rattle.std.specs.Prelude.{◌≡◌, ◌⊎◌, ◌+◌, ◌/◌, ◌≤◌, ◌<◌, ℕ, Some, None, true, false, IsTrue, OnOk, IfErr};
 ghost use Rattle.core_view.specs.Purge.{fresh_by, fresh_of};
 ghost use Rattle.core_view.specs.Room.{IsBare};
 ghost use Rattle.object_table.specs.Entries.{is_short};
-ghost use Rattle.object_table.specs.Table.{bound_of};
+ghost use Rattle.object_table.specs.Table.{bound_of, entries_of};
 ghost use Rattle.core_segment.specs.Segment.{free_of};
 ghost use Rattle.disk_objects.specs.Disk.{disk_held, disk_room};
 ghost use Rattle.leaf_lambda.specs.Parts.{core_of, spare_of, IsParts};
@@ -61,14 +61,17 @@ impl<'h, H: Host> LoomMemory<'h, H> {
     ghost use Rattle.long_names.specs.Kept.{kept};
     ghost use Rattle.object_memory.specs.Told.{IsReady, is_root};
     ghost use Rattle.std.specs.Prelude.{Err};
-    ghost use Rattle.object_memory.specs.Contract.{Called, KeepsSound, Settles, Thins};
+    ghost use Rattle.object_memory.specs.Contract.{Called, KeepsSound, Settles, Thins, makes};
+    ghost use Rattle.long_names.specs.Access.{Access};
+    ghost use Rattle.loom_memory.specs.Freed.{IsFreed};
     ghost use Rattle.object_memory.specs.Fit.{MayCall, StaysCallable};
     ghost use Rattle.purger.specs.Draining.{KeepsHeld};
     ghost use Rattle.purger.specs.Purge.{HasRoom};
-    ghost use Rattle.loom_memory.specs.Memory.{loom_told, loom_outside, loom_lender, IsQuiet, IsSound};
+    ghost use Rattle.loom_memory.specs.Memory.{loom_told, loom_outside, loom_lender, IsCalm, IsQuiet, IsRefused, IsSilent, IsSound};
     ghost use Rattle.loom_memory.specs.Numbers.{IsNumbered};
     ghost use Rattle.loom_memory.specs.Own.{HasRested, IsIdle, KeepsCache, MindsCache};
     ghost use Rattle.loom_memory.specs.Residents.{fetched, is_resident};
+    ghost use Rattle.loom_memory.specs.Thinned.{is_thinned, HasLasted};
     ghost use Rattle.loom_memory.specs.Makings.{HasBegun, HasKept, HasSettled, HasThinned, IsLost, IsRefusedCall, IsRefusedMaking};
 
     // How many objects are held, if they are no more than before.
@@ -84,7 +87,9 @@ impl<'h, H: Host> LoomMemory<'h, H> {
 
     // The name from which on what is dead is looked for again where room is short: where few entries became free, as many objects are made
     // before as a 16th part of the entries that were in use. So where the living fill the core, it isn't searched at each making.
-    fn due_after(&self, before: u16) -> u32 {
+    fn due_after(&self, before: u16) -> u32
+        ensures soon { result ≤ self.now.ledger.next + entries_of self.now.parts.names.table / 8 }
+    {
         let table = &self.parts.names.table;
         let used = u32::from(table.entries().saturating_sub(before));
         let freed = u32::from(table.free().saturating_sub(before));
@@ -94,7 +99,7 @@ impl<'h, H: Host> LoomMemory<'h, H> {
         self.ledger.next.saturating_add(used / 8)
     }
 
-    // Frees dead objects until none is dead: what is held then is what is kept.
+    // Frees dead objects until none is dead: what is held then is what is kept. The buffer keeps its record.
     pub(crate) fn thin(&mut self) -> Result<(), MemFault>
         requires sound { IsSound H.Host self.old }
         requires ready { IsReady (loom_told H.Host self.old) }
@@ -102,10 +107,17 @@ impl<'h, H: Host> LoomMemory<'h, H> {
         ensures kept { OnOk result (HasKept (loom_told H.Host self.old) (loom_told H.Host self.new)) }
         ensures count { OnOk result (IsTrue (H.tells Role.Work) → object_count (loom_told H.Host self.new).heap ≡ self.new.ledger.held) }
         ensures again { OnOk result (IsTrue (H.tells Role.Work) → kept (loom_told H.Host self.new).heap (is_root (loom_told H.Host self.new)) ≡ (loom_told H.Host self.new).heap) }
+        ensures set { OnOk result (is_thinned self.new ≡ true) }
         ensures ledger { OnOk result (self.new.ledger ≡ record self.old.ledger { held = self.new.ledger.held }) }
         ensures less { OnOk result (self.new.ledger.held ≤ self.old.ledger.held) }
         ensures pins { OnOk result (self.new.pinned ≡ self.old.pinned) }
+        ensures regs { OnOk result (self.new.regs ≡ self.old.regs) }
+        ensures calm { OnOk result (IsCalm self.old.pinned (core_of self.old.parts) (core_of self.new.parts)) }
+        ensures soon { OnOk result (self.new.due ≤ self.new.ledger.next + entries_of self.new.parts.names.table / 8) }
+        ensures buf { self.new.buf ≡ self.old.buf }
+        ensures access { IfErr result (λ f. (a : Access) → IsSilent a → makes a ≡ 0 → IsRefused (loom_told H.Host self.old) (loom_told H.Host self.new) a f) }
         ensures limit { OnOk result (disk_room self.new.disk.rest ≡ disk_room self.old.disk.rest) }
+        ensures fetches { fetched self.new ≡ fetched self.old }
         ensures bodies { OnOk result (IsTrue (H.tells Role.Work) → KeepsHeld (core_of self.old.parts) (core_of self.new.parts) (loom_told H.Host self.new).heap) }
         ensures entries { OnOk result (spare_of self.old.parts ≤ spare_of self.new.parts) }
         ensures words { OnOk result (free_of self.old.parts.segment ≤ free_of self.new.parts.segment) }
@@ -119,11 +131,12 @@ impl<'h, H: Host> LoomMemory<'h, H> {
         ensures outside { loom_outside H.Host self.new ≡ loom_outside H.Host self.old }
     {
         let before = self.parts.names.table.free();
-        match drain(&mut self.parts, &mut self.disk, &mut self.buf) {
+        match drain(&mut self.parts, &mut self.disk, &mut self.out) {
             Ok(()) => {
                 let held = self.recount();
                 self.ledger.held = held;
                 self.due = self.due_after(before);
+                self.thinned = true;
                 Ok(())
             }
             Err(f) => {
@@ -140,9 +153,16 @@ impl<'h, H: Host> LoomMemory<'h, H> {
         requires ready { IsReady (loom_told H.Host self.old) }
         ensures thinned { OnOk result (HasThinned (loom_told H.Host self.old) (loom_told H.Host self.new)) }
         ensures roomy { OnOk result (HasRoom self.old.parts words entries → self.new ≡ self.old) }
+        ensures gone { OnOk result (IsFreed H.Host self.old self.new words entries) }
+        ensures pins { OnOk result (self.new.pinned ≡ self.old.pinned) }
+        ensures regs { OnOk result (self.new.regs ≡ self.old.regs) }
+        ensures calm { OnOk result (IsCalm self.old.pinned (core_of self.old.parts) (core_of self.new.parts)) }
+        ensures buf { self.new.buf ≡ self.old.buf }
+        ensures access { IfErr result (λ f. (a : Access) → IsSilent a → makes a ≡ 0 → IsRefused (loom_told H.Host self.old) (loom_told H.Host self.new) a f) }
         ensures ledger { OnOk result (self.new.ledger ≡ record self.old.ledger { held = self.new.ledger.held }) }
         ensures less { OnOk result (self.new.ledger.held ≤ self.old.ledger.held) }
         ensures limit { OnOk result (disk_room self.new.disk.rest ≡ disk_room self.old.disk.rest) }
+        ensures fetches { fetched self.new ≡ fetched self.old }
         ensures bodies { OnOk result (IsTrue (H.tells Role.Work) → KeepsHeld (core_of self.old.parts) (core_of self.new.parts) (loom_told H.Host self.new).heap) }
         ensures entries { OnOk result (spare_of self.old.parts ≤ spare_of self.new.parts) }
         ensures words { OnOk result (free_of self.old.parts.segment ≤ free_of self.new.parts.segment) }
@@ -188,9 +208,10 @@ impl<'h, H: Host> LoomMemory<'h, H> {
         ensures settled { OnOk result (HasSettled (loom_told H.Host self.old) (loom_told H.Host self.new)) }
         ensures none { OnOk result (self.new.ledger.made ≡ 0) }
         ensures base { OnOk result (self.new.ledger.base ≡ None) }
-        ensures fetches { OnOk result (fetched self.new ≡ fetched self.old) }
+        ensures fetches { fetched self.new ≡ fetched self.old }
         ensures bodies { OnOk result (IsTrue (H.tells Role.Work) → KeepsHeld (core_of self.old.parts) (core_of self.new.parts) (loom_told H.Host self.new).heap) }
         ensures entries { OnOk result (spare_of self.old.parts ≤ spare_of self.new.parts) }
+        ensures gone { OnOk result (IsFreed H.Host self.old self.new 0 SETTLED) }
         ensures minds { OnOk result (MindsCache H.Host None self.old self.new (λ k. ⊥)) }
         ensures rests { SETTLED ≤ spare_of self.old.parts → HasRested self.old self.new result }
         ensures sound { KeepsSound result (IsSound H.Host self.new) }
@@ -215,9 +236,12 @@ impl<'h, H: Host> LoomMemory<'h, H> {
         ensures none { OnOk result (self.new.ledger.made ≡ 0) }
         ensures room { self.old.ledger.held + MAKINGS ≤ disk_room self.old.disk.rest → OnOk result ((self.new.ledger.base ≡ None) × (SETTLED ≤ spare_of self.old.parts → self.new.ledger.held ≡ self.old.ledger.held)) }
         ensures full { disk_room self.old.disk.rest < self.old.ledger.held + MAKINGS → OnOk result (self.new.ledger.base ≡ Some self.new.ledger.held) }
-        ensures fetches { OnOk result (fetched self.new ≡ fetched self.old) }
+        ensures thins { disk_room self.old.disk.rest < self.old.ledger.held + MAKINGS → OnOk result (is_thinned self.new ≡ true) }
+        ensures lasts { disk_room self.old.disk.rest < self.old.ledger.held + MAKINGS → is_thinned self.old ≡ true → HasLasted self.old self.new result }
+        ensures fetches { fetched self.new ≡ fetched self.old }
         ensures bodies { OnOk result (IsTrue (H.tells Role.Work) → KeepsHeld (core_of self.old.parts) (core_of self.new.parts) (loom_told H.Host self.new).heap) }
         ensures entries { OnOk result (spare_of self.old.parts ≤ spare_of self.new.parts) }
+        ensures gone { self.old.ledger.held + MAKINGS ≤ disk_room self.old.disk.rest → OnOk result (IsFreed H.Host self.old self.new 0 SETTLED) }
         ensures minds { OnOk result (IsTrue (H.tells Role.Work) → MindsCache H.Host None self.old self.new (λ k. ⊥)) }
         ensures rests { self.old.ledger.held + MAKINGS ≤ disk_room self.old.disk.rest → SETTLED ≤ spare_of self.old.parts → HasRested self.old self.new result }
         ensures sound { KeepsSound result (IsSound H.Host self.new) }
@@ -229,7 +253,7 @@ impl<'h, H: Host> LoomMemory<'h, H> {
         if self.ledger.held + MAKINGS_BEFORE_FREEING <= room {
             return self.settle_roomy();
         }
-        match self.thin() {
+        match self.thin_once() {
             Ok(()) => {
                 let held = self.ledger.held;
                 self.count_anew(Some(held));
@@ -247,6 +271,9 @@ impl<'h, H: Host> LoomMemory<'h, H> {
         ensures ledger { OnOk result (self.new.ledger ≡ self.old.ledger) }
         ensures spare { OnOk result ((SETTLED ≤ spare_of self.new.parts) ⊎ IsBare self.new.pinned.a self.new.pinned.b self.new.pinned.d (core_of self.new.parts)) }
         ensures stays { OnOk result (SETTLED ≤ spare_of self.old.parts → self.new ≡ self.old) }
+        ensures sure { IfErr result (λ f. SETTLED ≤ spare_of self.old.parts → ⊥) }
+        ensures fetches { fetched self.new ≡ fetched self.old }
+        ensures thinned { is_thinned self.new ≡ is_thinned self.old }
         ensures minds { OnOk result (MindsCache H.Host None self.old self.new (λ k. ⊥)) }
         ensures sound { KeepsSound result (IsSound H.Host self.new) }
         ensures err { IfErr result (IsRefusedCall (loom_told H.Host self.old) (loom_told H.Host self.new) Settles) }
@@ -289,10 +316,13 @@ impl<'h, H: Host> LoomMemory<'h, H> {
         ensures none { OnOk result (self.new.ledger.made ≡ 0) }
         ensures room { self.old.ledger.held + MAKINGS ≤ disk_room self.old.disk.rest → OnOk result ((self.new.ledger.base ≡ None) × (SETTLED ≤ spare_of self.old.parts → self.new.ledger.held ≡ self.old.ledger.held)) }
         ensures full { disk_room self.old.disk.rest < self.old.ledger.held + MAKINGS → OnOk result (self.new.ledger.base ≡ Some self.new.ledger.held) }
+        ensures thins { disk_room self.old.disk.rest < self.old.ledger.held + MAKINGS → OnOk result (is_thinned self.new ≡ true) }
+        ensures lasts { disk_room self.old.disk.rest < self.old.ledger.held + MAKINGS → is_thinned self.old ≡ true → SETTLED ≤ spare_of self.old.parts → HasLasted self.old self.new result }
         ensures spare { OnOk result ((SETTLED ≤ spare_of self.new.parts) ⊎ IsBare self.new.pinned.a self.new.pinned.b self.new.pinned.d (core_of self.new.parts)) }
-        ensures fetches { OnOk result (fetched self.new ≡ fetched self.old) }
+        ensures fetches { fetched self.new ≡ fetched self.old }
         ensures stays { OnOk result (SETTLED ≤ spare_of self.old.parts → IsTrue (H.tells Role.Work) → (k : ℕ) → IsTrue (is_resident self.old k) → Has (loom_told H.Host self.new).heap k → IsTrue (is_resident self.new k)) }
         ensures whole { self.old.ledger.held + MAKINGS ≤ disk_room self.old.disk.rest → SETTLED ≤ spare_of self.old.parts → OnOk result ((loom_told H.Host self.new).heap ≡ (loom_told H.Host self.old).heap) }
+        ensures gone { self.old.ledger.held + MAKINGS ≤ disk_room self.old.disk.rest → OnOk result (IsFreed H.Host self.old self.new 0 SETTLED) }
         ensures minds { OnOk result (IsTrue (H.tells Role.Work) → MindsCache H.Host None self.old self.new (λ k. ⊥)) }
         ensures fit { StaysCallable (IsSound H.Host) (loom_told H.Host) loom_lender (loom_outside H.Host) self.old self.new result }
     {
@@ -304,8 +334,10 @@ impl<'h, H: Host> LoomMemory<'h, H> {
 
     /// After it no making is counted. Where there was room for eight more, the count isn't known; elsewhere it is that of what is held, of
     /// which nothing is dead. [`RESERVE`] entries are free then, or nothing but pinned objects has a body; where fewer were free, dead objects
-    /// go before others leave. No object comes in; where that many were free before, each object in the core that is still held stays there.
-    /// With both, nothing is done: it is answered, and nothing changes but that makings are counted anew.
+    /// go before others leave, and nothing is dead then if that was looked for. No object comes in; where that many were free before, each
+    /// object in the core that is still held stays there. With both, nothing is done: it is answered, and nothing changes but that makings are
+    /// counted anew. Where there was no room for eight more, it says afterwards that nothing is dead (`is_thinned`), and where it said so
+    /// before, nothing is done either.
     #[inline(always)]
     pub fn settle(&mut self) -> Result<(), MemFault>
         requires fit { MayCall (IsSound H.Host) (loom_told H.Host) self.old }
@@ -313,12 +345,15 @@ impl<'h, H: Host> LoomMemory<'h, H> {
         ensures none { OnOk result (self.new.ledger.made ≡ 0) }
         ensures room { self.old.ledger.held + MAKINGS ≤ disk_room self.old.disk.rest → OnOk result ((self.new.ledger.base ≡ None) × (SETTLED ≤ spare_of self.old.parts → self.new.ledger.held ≡ self.old.ledger.held)) }
         ensures full { disk_room self.old.disk.rest < self.old.ledger.held + MAKINGS → OnOk result (self.new.ledger.base ≡ Some self.new.ledger.held) }
+        ensures thins { disk_room self.old.disk.rest < self.old.ledger.held + MAKINGS → OnOk result (is_thinned self.new ≡ true) }
+        ensures lasts { disk_room self.old.disk.rest < self.old.ledger.held + MAKINGS → is_thinned self.old ≡ true → SETTLED ≤ spare_of self.old.parts → HasLasted self.old self.new result }
         ensures spare { OnOk result ((SETTLED ≤ spare_of self.new.parts) ⊎ IsBare self.new.pinned.a self.new.pinned.b self.new.pinned.d (core_of self.new.parts)) }
-        ensures fetches { OnOk result (fetched self.new ≡ fetched self.old) }
+        ensures fetches { fetched self.new ≡ fetched self.old }
         ensures stays { OnOk result (SETTLED ≤ spare_of self.old.parts → IsTrue (H.tells Role.Work) → (k : ℕ) → IsTrue (is_resident self.old k) → Has (loom_told H.Host self.new).heap k → IsTrue (is_resident self.new k)) }
         ensures whole { self.old.ledger.held + MAKINGS ≤ disk_room self.old.disk.rest → SETTLED ≤ spare_of self.old.parts → OnOk result ((loom_told H.Host self.new).heap ≡ (loom_told H.Host self.old).heap) }
         ensures idle { self.old.ledger.held + MAKINGS ≤ disk_room self.old.disk.rest → SETTLED ≤ spare_of self.old.parts → OnOk result (IsIdle self.old self.new) }
         ensures cached { self.old.ledger.held + MAKINGS ≤ disk_room self.old.disk.rest → SETTLED ≤ spare_of self.old.parts → OnOk result (KeepsCache H.Host self.old self.new) }
+        ensures gone { self.old.ledger.held + MAKINGS ≤ disk_room self.old.disk.rest → OnOk result (IsFreed H.Host self.old self.new 0 SETTLED) }
         ensures minds { OnOk result (IsTrue (H.tells Role.Work) → MindsCache H.Host None self.old self.new (λ k. ⊥)) }
         ensures rests { self.old.ledger.held + MAKINGS ≤ disk_room self.old.disk.rest → SETTLED ≤ spare_of self.old.parts → HasRested self.old self.new result }
         ensures fit { StaysCallable (IsSound H.Host) (loom_told H.Host) loom_lender (loom_outside H.Host) self.old self.new result }

@@ -1,9 +1,10 @@
 // Slots: what they name stays in the core.
-ghost use Rattle.std.specs.Prelude.{◌≡◌, ◌<◌, ℕ, None, false};
+ghost use Rattle.std.specs.Prelude.{◌≡◌, ◌<◌, ℕ, None, false, OnOk};
 ghost use Rattle.leaf_lambda.specs.Parts.{core_of};
 ghost use Rattle.loom_memory.specs.Memory.{pin_in, with_pin};
 
 use crate::memory::LoomMemory;
+use crate::thinned::note_gone;
 use leaf_lambda::fields::{drop_word, hold_word};
 use loom_host::Host;
 use object_memory::{MemFault, Reg};
@@ -43,6 +44,7 @@ impl<'h, H: Host> LoomMemory<'h, H> {
     ghost use Rattle.loom_memory.specs.Memory.{loom_told, loom_outside, loom_lender, name_if, IsPinned, IsSound};
     ghost use Rattle.loom_memory.specs.Gentle.{IsSteady};
     ghost use Rattle.loom_memory.specs.Damage.{IsDamaged};
+    ghost use Rattle.loom_memory.specs.Freed.{IsFreedBy};
     ghost use Rattle.loom_memory.specs.Own.{BringsOne, IsSparing};
     ghost use Rattle.loom_memory.specs.Residents.{is_resident};
 
@@ -62,6 +64,7 @@ impl<'h, H: Host> LoomMemory<'h, H> {
         let old = pin_at(&self.pinned, slot);
         put_pin(&mut self.pinned, slot, w);
         drop_word(&mut self.parts, old);
+        note_gone(&self.parts, &mut self.thinned, old);
     }
 
     /// Empties the slot.
@@ -84,6 +87,7 @@ impl<'h, H: Host> LoomMemory<'h, H> {
         requires slot { slot < 3 }
         ensures access { Accessed (loom_told H.Host self.old) (loom_told H.Host self.new) (Pin slot r) (λ _. Nothing) result }
         ensures own { IsSparing H.Host self.old self.new (name_at ((loom_told H.Host self.old).regs r)) result }
+        ensures gone { OnOk result (IsFreedBy H.Host self.old self.new (name_at ((loom_told H.Host self.old).regs r)) (Pin slot r)) }
         ensures damage { IsDamaged self.old self.new (name_at ((loom_told H.Host self.old).regs r)) result }
         ensures brings { BringsOne self.old self.new (is_resident self.old (name_at ((loom_told H.Host self.old).regs r)) ≡ false) }
         ensures fit { StaysCallable (IsSound H.Host) (loom_told H.Host) loom_lender (loom_outside H.Host) self.old self.new result }

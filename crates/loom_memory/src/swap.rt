@@ -40,7 +40,7 @@ impl<'h, H: Host> LoomMemory<'h, H> {
         ensures outside { loom_outside H.Host self.new ≡ loom_outside H.Host self.old }
     {
         let s = Short(self.regs[of.index()]);
-        if self.parts.names.table.entry(s).place().is_some() {
+        if self.parts.names.table.used_entry(s).place().is_some() {
             return match evict(&mut self.parts, &mut self.disk, &mut self.out, s) {
                 Ok(()) => Ok(()),
                 Err(f) => {
@@ -72,10 +72,13 @@ impl<'h, H: Host> LoomMemory<'h, H> {
         a_disk_is_its_objects();
         let s = Short(self.regs[a.index()]);
         let t = Short(self.regs[b.index()]);
-        let first = self.parts.names.table.entry(s).name;
-        let second = self.parts.names.table.entry(t).name;
+        let first = self.parts.names.table.used_entry(s).name;
+        let second = self.parts.names.table.used_entry(t).name;
         match self.disk.swap(first, second, &mut self.out) {
-            Ok(()) => Ok(()),
+            Ok(()) => {
+                self.thinned = false;
+                Ok(())
+            }
             Err(f) => {
                 let f = refusal_of(f);
                 Err(self.refuse(f))

@@ -12,13 +12,9 @@ use Rattle.loom_memory.specs.Bodies.{bytes_from}
 use Rattle.loom_memory.proofs.BodyLaws.{of-body, bytes-at, no-bytes-at, bytes-room-at, bytes-count, byte-among, element-here, element-none, none-there}
 use Rattle.loom_memory.proofs.bodies.byte_at.Goals as goal
 
-pub entry-e-requires-clause-short : goal.entry-e-requires-clause-short
+pub used_entry-e-requires : goal.used_entry-e-requires
 unfolding core_of
-entry-e-requires-clause-short c = c.requires.parts.core.short c.args.s.0 (placed-used ((core_of c.args.p.now).entries c.args.s.0).state c.requires.there.0 c.requires.there.1)
-
-pub entry-e-requires-clause-within : goal.entry-e-requires-clause-within
-unfolding core_of
-entry-e-requires-clause-within c = c.requires.parts.core.within c.args.s.0 (placed-used ((core_of c.args.p.now).entries c.args.s.0).state c.requires.there.0 c.requires.there.1)
+used_entry-e-requires c = placed-used ((core_of c.args.p.now).entries c.args.s.0).state c.requires.there.0 c.requires.there.1
 
 pub byte_from-requires-clause-within : goal.byte_from-requires-clause-within
 unfolding core_of
@@ -27,7 +23,7 @@ byte_from-requires-clause-within c =
     let at = c.place_of_body-at.result.place in
     let from : bytes_from (x.entries c.args.s.0).kind (x.chunks at).words ≡ Some c.in-Some.first = sym c.bytes_first.ensures.first ∙ c.in-Some.is in
     let room = bytes-room-at x c.args.s.0 at c.in-Some.first c.requires.parts.core c.place_of_body-at.ensures from in
-    let len : c.entry-e.result.len ≡ (x.entries c.args.s.0).len = ap (λ (e : Entry). e.len) c.entry-e.ensures in
+    let len : c.used_entry-e.result.len ≡ (x.entries c.args.s.0).len = ap (λ (e : Entry). e.len) c.used_entry-e.ensures in
     let low = c.if-i-e.true in
     omega arith
 
@@ -38,7 +34,7 @@ returns-then-i-e c =
     let at = c.place_of_body-at.result.place in
     let from : bytes_from (x.entries c.args.s.0).kind (x.chunks at).words ≡ Some c.in-Some.first = sym c.bytes_first.ensures.first ∙ c.in-Some.is in
     let room = bytes-room-at x c.args.s.0 at c.in-Some.first c.requires.parts.core c.place_of_body-at.ensures from in
-    let len : c.entry-e.result.len ≡ (x.entries c.args.s.0).len = ap (λ (e : Entry). e.len) c.entry-e.ensures in
+    let len : c.used_entry-e.result.len ≡ (x.entries c.args.s.0).len = ap (λ (e : Entry). e.len) c.used_entry-e.ensures in
     let low = c.if-i-e.true in
     let bytes = bytes_in (drop c.in-Some.first (x.chunks at).words) in
     of-body x c.args.s.0 at (λ (b : Body). Some c.byte_from.result ≡ option_and_then (λ bytes. slice_get bytes c.args.i) (bytes_of b)) c.place_of_body-at.ensures
@@ -52,7 +48,7 @@ returns-else-i-e c =
     let at = c.place_of_body-at.result.place in
     let from : bytes_from (x.entries c.args.s.0).kind (x.chunks at).words ≡ Some c.in-Some.first = sym c.bytes_first.ensures.first ∙ c.in-Some.is in
     let room = bytes-room-at x c.args.s.0 at c.in-Some.first c.requires.parts.core c.place_of_body-at.ensures from in
-    let len : c.entry-e.result.len ≡ (x.entries c.args.s.0).len = ap (λ (e : Entry). e.len) c.entry-e.ensures in
+    let len : c.used_entry-e.result.len ≡ (x.entries c.args.s.0).len = ap (λ (e : Entry). e.len) c.used_entry-e.ensures in
     let past = c.if-i-e.false in
     let bytes = bytes_in (drop c.in-Some.first (x.chunks at).words) in
     let count = bytes-count (x.chunks at).words (x.entries c.args.s.0).len c.in-Some.first room in

@@ -10,13 +10,9 @@ use Rattle.loom_memory.specs.Bodies.{HasRun, LacksRun, bytes_from}
 use Rattle.loom_memory.proofs.BodyLaws.{of-body, bytes-at, no-bytes-at, bytes-room-at, bytes-count, byte-among, small-at, run-here, run-short, run-none}
 use Rattle.loom_memory.proofs.bodies.bytes_into.Goals as goal
 
-pub entry-e-requires-clause-short : goal.entry-e-requires-clause-short
+pub used_entry-e-requires : goal.used_entry-e-requires
 unfolding core_of
-entry-e-requires-clause-short c = c.requires.parts.core.short c.args.s.0 (placed-used ((core_of c.args.p.now).entries c.args.s.0).state c.requires.there.0 c.requires.there.1)
-
-pub entry-e-requires-clause-within : goal.entry-e-requires-clause-within
-unfolding core_of
-entry-e-requires-clause-within c = c.requires.parts.core.within c.args.s.0 (placed-used ((core_of c.args.p.now).entries c.args.s.0).state c.requires.there.0 c.requires.there.1)
+used_entry-e-requires c = placed-used ((core_of c.args.p.now).entries c.args.s.0).state c.requires.there.0 c.requires.there.1
 
 pub copy_bytes-requires-clause-within : goal.copy_bytes-requires-clause-within
 unfolding core_of
@@ -25,7 +21,7 @@ copy_bytes-requires-clause-within c =
     let at = c.place_of_body-at.result.place in
     let from : bytes_from (x.entries c.args.s.0).kind (x.chunks at).words ≡ Some c.in-Some.first = sym c.bytes_first.ensures.first ∙ c.in-Some.is in
     let room = bytes-room-at x c.args.s.0 at c.in-Some.first c.requires.parts.core c.place_of_body-at.ensures from in
-    let len : c.entry-e.result.len ≡ (x.entries c.args.s.0).len = ap (λ (e : Entry). e.len) c.entry-e.ensures in
+    let len : c.used_entry-e.result.len ≡ (x.entries c.args.s.0).len = ap (λ (e : Entry). e.len) c.used_entry-e.ensures in
     omega arith
 
 pub copy_bytes-requires-clause-small : goal.copy_bytes-requires-clause-small
@@ -33,7 +29,7 @@ unfolding core_of
 copy_bytes-requires-clause-small c =
     let x = core_of c.args.p.now in
     let at = c.place_of_body-at.result.place in
-    let len : c.entry-e.result.len ≡ (x.entries c.args.s.0).len = ap (λ (e : Entry). e.len) c.entry-e.ensures in
+    let len : c.used_entry-e.result.len ≡ (x.entries c.args.s.0).len = ap (λ (e : Entry). e.len) c.used_entry-e.ensures in
     let small = small-at x c.args.s.0 at c.requires.parts.core c.place_of_body-at.ensures in
     omega arith
 
@@ -44,7 +40,7 @@ returns-then-reaches c =
     let at = c.place_of_body-at.result.place in
     let from : bytes_from (x.entries c.args.s.0).kind (x.chunks at).words ≡ Some c.in-Some.first = sym c.bytes_first.ensures.first ∙ c.in-Some.is in
     let room = bytes-room-at x c.args.s.0 at c.in-Some.first c.requires.parts.core c.place_of_body-at.ensures from in
-    let len : c.entry-e.result.len ≡ (x.entries c.args.s.0).len = ap (λ (e : Entry). e.len) c.entry-e.ensures in
+    let len : c.used_entry-e.result.len ≡ (x.entries c.args.s.0).len = ap (λ (e : Entry). e.len) c.used_entry-e.ensures in
     let bytes = bytes_in (drop c.in-Some.first (x.chunks at).words) in
     let count = bytes-count (x.chunks at).words (x.entries c.args.s.0).len c.in-Some.first room in
     of-body x c.args.s.0 at (λ (b : Body). MatchBool true (HasRun (bytes_of b) c.args.i (length c.args.out.now) c.copy_bytes.new.out) (LacksRun (bytes_of b) c.args.i (length c.args.out.now))) c.place_of_body-at.ensures
@@ -58,7 +54,7 @@ returns-else-reaches c =
     let at = c.place_of_body-at.result.place in
     let from : bytes_from (x.entries c.args.s.0).kind (x.chunks at).words ≡ Some c.in-Some.first = sym c.bytes_first.ensures.first ∙ c.in-Some.is in
     let room = bytes-room-at x c.args.s.0 at c.in-Some.first c.requires.parts.core c.place_of_body-at.ensures from in
-    let len : c.entry-e.result.len ≡ (x.entries c.args.s.0).len = ap (λ (e : Entry). e.len) c.entry-e.ensures in
+    let len : c.used_entry-e.result.len ≡ (x.entries c.args.s.0).len = ap (λ (e : Entry). e.len) c.used_entry-e.ensures in
     let bytes = bytes_in (drop c.in-Some.first (x.chunks at).words) in
     let count = bytes-count (x.chunks at).words (x.entries c.args.s.0).len c.in-Some.first room in
     of-body x c.args.s.0 at (λ (b : Body). MatchBool false (HasRun (bytes_of b) c.args.i (length c.args.out.now) c.args.out.now) (LacksRun (bytes_of b) c.args.i (length c.args.out.now))) c.place_of_body-at.ensures

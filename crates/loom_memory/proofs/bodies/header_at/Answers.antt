@@ -16,27 +16,23 @@ use Rattle.leaf_lambda.proofs.WordLaws.{odd-small}
 use Rattle.loom_memory.proofs.BodyLaws.{of-body, header-is, header-none}
 use Rattle.loom_memory.proofs.bodies.header_at.Goals as goal
 
-pub entry-e-requires-clause-short : goal.entry-e-requires-clause-short
+pub used_entry-e-requires : goal.used_entry-e-requires
 unfolding core_of
-entry-e-requires-clause-short c = c.requires.parts.core.short c.args.s.0 (placed-used ((core_of c.args.p.now).entries c.args.s.0).state c.requires.there.0 c.requires.there.1)
-
-pub entry-e-requires-clause-within : goal.entry-e-requires-clause-within
-unfolding core_of
-entry-e-requires-clause-within c = c.requires.parts.core.within c.args.s.0 (placed-used ((core_of c.args.p.now).entries c.args.s.0).state c.requires.there.0 c.requires.there.1)
+used_entry-e-requires c = placed-used ((core_of c.args.p.now).entries c.args.s.0).state c.requires.there.0 c.requires.there.1
 
 pub word-requires : goal.word-requires
 unfolding core_of
 word-requires c =
     let x = core_of c.args.p.now in
     let at = c.place_of_body-at.result.place in
-    method-some x c.args.s.0 at c.requires.parts.core c.place_of_body-at.ensures (ap (λ (e : Entry). e.kind) (sym c.entry-e.ensures) ∙ c.in-Method.is)
+    method-some x c.args.s.0 at c.requires.parts.core c.place_of_body-at.ensures (ap (λ (e : Entry). e.kind) (sym c.used_entry-e.ensures) ∙ c.in-Method.is)
 
 pub returns-in-Method-clause-header : goal.returns-in-Method-clause-header
 unfolding core_of
 returns-in-Method-clause-header c =
     let x = core_of c.args.p.now in
     let at = c.place_of_body-at.result.place in
-    let is : (x.entries c.args.s.0).kind ≡ kind.Method = ap (λ (e : Entry). e.kind) (sym c.entry-e.ensures) ∙ c.in-Method.is in
+    let is : (x.entries c.args.s.0).kind ≡ kind.Method = ap (λ (e : Entry). e.kind) (sym c.used_entry-e.ensures) ∙ c.in-Method.is in
     of-body x c.args.s.0 at (λ (b : Body). Some (to_z w16 (of_z w16 c.int_short.result)) ≡ header_of b) c.place_of_body-at.ensures
     (λ disk. ap Some (small_number c.int_short.result (subst IsSmallInteger (sym c.int_short.ensures) (odd-small c.word.result (omega arith)))) ∙ ap Some c.int_short.ensures ∙ ap Some (sym (header-first (x.chunks at).words c.word.result c.word.ensures)) ∙ sym (header-is x.entries (fields_there (disk (x.entries c.args.s.0).name)) (x.chunks at).words (x.entries c.args.s.0).kind (x.entries c.args.s.0).len is))
 
@@ -46,4 +42,4 @@ returns-in_default-clause-header c =
     let x = core_of c.args.p.now in
     let at = c.place_of_body-at.result.place in
     of-body x c.args.s.0 at (λ (b : Body). None ≡ header_of b) c.place_of_body-at.ensures
-    (λ disk. sym (header-none x.entries (fields_there (disk (x.entries c.args.s.0).name)) (x.chunks at).words (x.entries c.args.s.0).kind (x.entries c.args.s.0).len (λ is. c.in_default.not-Method (ap (λ (e : Entry). e.kind) c.entry-e.ensures ∙ is))))
+    (λ disk. sym (header-none x.entries (fields_there (disk (x.entries c.args.s.0).name)) (x.chunks at).words (x.entries c.args.s.0).kind (x.entries c.args.s.0).len (λ is. c.in_default.not-Method (ap (λ (e : Entry). e.kind) c.used_entry-e.ensures ∙ is))))

@@ -11,13 +11,9 @@ use Rattle.loom_memory.specs.Cache.{with_its_mark}
 use Rattle.loom_memory.proofs.RowLaws.{marked-core}
 use Rattle.loom_memory.proofs.cache.set_mark.Goals as goal
 
-pub entry-e-requires-clause-short : goal.entry-e-requires-clause-short
+pub used_entry-e-requires : goal.used_entry-e-requires
 unfolding core_of
-entry-e-requires-clause-short c = c.requires.parts.core.short c.args.s.0 (placed-used ((core_of c.args.p.now).entries c.args.s.0).state c.requires.there.0 c.requires.there.1)
-
-pub entry-e-requires-clause-within : goal.entry-e-requires-clause-within
-unfolding core_of
-entry-e-requires-clause-within c = c.requires.parts.core.within c.args.s.0 (placed-used ((core_of c.args.p.now).entries c.args.s.0).state c.requires.there.0 c.requires.there.1)
+used_entry-e-requires c = placed-used ((core_of c.args.p.now).entries c.args.s.0).state c.requires.there.0 c.requires.there.1
 
 pub set-requires-clause-within : goal.set-requires-clause-within
 unfolding core_of
@@ -29,12 +25,12 @@ set-requires-clause-used c = placed-used ((core_of c.args.p.now).entries c.args.
 
 pub set-requires-clause-stays : goal.set-requires-clause-stays
 unfolding core_of
-set-requires-clause-stays c = ap (λ (e : Entry). is_used e.state) c.entry-e.ensures ∙ placed-used ((core_of c.args.p.now).entries c.args.s.0).state c.requires.there.0 c.requires.there.1
+set-requires-clause-stays c = ap (λ (e : Entry). is_used e.state) c.used_entry-e.ensures ∙ placed-used ((core_of c.args.p.now).entries c.args.s.0).state c.requires.there.0 c.requires.there.1
 
 core-then : (c : goal.After-set) → core_of (record c.args.p.now { names = record c.args.p.now.names { table = c.set.new.self } }) ≡ with_entry (core_of c.args.p.now) c.args.s.0 (with_its_mark ((core_of c.args.p.now).entries c.args.s.0))
 unfolding core_of
 core-then c = core-is _ (with_entry (core_of c.args.p.now) c.args.s.0 (with_its_mark ((core_of c.args.p.now).entries c.args.s.0)))
-    (c.set.ensures.entry ∙ ap (λ (e : Entry). put (entry_at c.args.p.now.names.table) c.args.s.0 (with_its_mark e)) c.entry-e.ensures) refl refl (ap (λ (n : ℕ). 2 * n + 2) c.set.ensures.entries)
+    (c.set.ensures.entry ∙ ap (λ (e : Entry). put (entry_at c.args.p.now.names.table) c.args.s.0 (with_its_mark e)) c.used_entry-e.ensures) refl refl (ap (λ (n : ℕ). 2 * n + 2) c.set.ensures.entries)
 
 pub returns-clause-parts : goal.returns-clause-parts
 returns-clause-parts c = record {

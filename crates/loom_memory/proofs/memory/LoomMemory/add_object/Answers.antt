@@ -8,6 +8,7 @@ use Rattle.loom_memory.proofs.RegLaws.{few-held, kept-rooted}
 use Rattle.loom_memory.proofs.GentleLaws.{calm-remains}
 use Rattle.loom_memory.proofs.KeepingLaws.{counts-keep}
 use Rattle.loom_memory.proofs.MindLaws.{minds-made}
+use Rattle.std.proofs.Common.{refl}
 use Rattle.loom_memory.proofs.memory.LoomMemory.add_object.Goals as goal
 
 pub make_object-requires-clause-light : goal.make_object-requires-clause-light
@@ -59,3 +60,7 @@ returns-in-Some-clause-cached g c =
 
 pub returns-in-Some-clause-minds : goal.returns-in-Some-clause-minds
 returns-in-Some-clause-minds g c = minds-made g.H.Host c.args.self.now _ c.in-Some.new.0 c.args.name c.requires.sound (returns-in-Some-clause-sound g c) c.in-Some.ensures.made.entry.named c.in-Some.ensures.made.others (returns-in-Some-clause-cached g c)
+
+pub returns-in-None-clause-fetches : goal.returns-in-None-clause-fetches
+unfolding fetched
+returns-in-None-clause-fetches g c = refl

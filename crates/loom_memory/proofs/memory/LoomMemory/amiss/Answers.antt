@@ -8,17 +8,13 @@ use Rattle.purger.specs.declared.eviction.TheConstants.{NOWHERE}
 use Rattle.loom_memory.specs.Memory.{IsSound}
 use Rattle.loom_memory.proofs.memory.LoomMemory.amiss.Goals as goal
 
-pub entry-name-requires-clause-short : goal.entry-name-requires-clause-short
+pub used_entry-name-requires : goal.used_entry-name-requires
 unfolding core_of
-entry-name-requires-clause-short g c = c.requires.sound.kept.parts.core.short c.args.s.0 c.requires.used
-
-pub entry-name-requires-clause-within : goal.entry-name-requires-clause-within
-unfolding core_of
-entry-name-requires-clause-within g c = c.requires.sound.kept.parts.core.within c.args.s.0 c.requires.used
+used_entry-name-requires g c = c.requires.used
 
 pub returns-clause-sound : goal.returns-clause-sound
 returns-clause-sound g c = subst (λ (f : MemFault). LeavesAll f (IsSound g.H.Host c.wrong.new.self)) (sym c.wrong.ensures.is) tt
 
 pub returns-clause-is : goal.returns-clause-is
 unfolding core_of
-returns-clause-is g c = c.wrong.ensures.is ∙ ap (λ (e : Entry). Damaged NOWHERE e.name) c.entry-name.ensures
+returns-clause-is g c = c.wrong.ensures.is ∙ ap (λ (e : Entry). Damaged NOWHERE e.name) c.used_entry-name.ensures

@@ -1,9 +1,11 @@
 use Rattle.std.proofs.Common.{IsTrue}
 use Rattle.loom_host.specs.declared.outside.Role.TheVariants.{Work}
 use Rattle.loom_memory.specs.Memory.{loom_told}
-use Rattle.loom_memory.proofs.AskLaws.{ask-bodies, ask-early, ask-fetches, ask-full, ask-held, ask-next, ask-refused, ask-room, ask-spared, ask-sure, ask-thinned}
+use Rattle.loom_memory.proofs.AskLaws.{ask-bodies, ask-early, ask-full, ask-held, ask-next, ask-refused, ask-room, ask-spared, ask-sure, ask-thinned}
+use Rattle.loom_memory.proofs.FirstRoomLaws.{gone-where}
 use Rattle.loom_memory.proofs.MakingLaws.{thinned-ready}
 use Rattle.loom_memory.proofs.MindLaws.{minds-told}
+use Rattle.std.proofs.Common.{◌∙◌}
 use Rattle.loom_memory.proofs.memory.LoomMemory.ask.Goals as goal
 
 pub free_first-requires-clause-ready : goal.free_first-requires-clause-ready
@@ -19,7 +21,7 @@ pub returns-in-Ok-clause-next : goal.returns-in-Ok-clause-next
 returns-in-Ok-clause-next g c = ask-next c.free_first.result c.args.self.now c.ask_room.new.self c.free_first.new.self c.in-Ok.ensures.next c.free_first.ensures.ledger
 
 pub returns-in-Ok-clause-fetches : goal.returns-in-Ok-clause-fetches
-returns-in-Ok-clause-fetches g c = ask-fetches c.free_first.result c.args.self.now c.ask_room.new.self c.free_first.new.self c.in-Ok.ensures.fetches c.free_first.ensures.ledger
+returns-in-Ok-clause-fetches g c = c.free_first.ensures.fetches ∙ c.ask_room.ensures.fetches
 
 pub returns-in-Ok-clause-minds : goal.returns-in-Ok-clause-minds
 returns-in-Ok-clause-minds g c = minds-told c.free_first.result (IsTrue (g.H.Host.tells Work)) g.H.Host c.args.self.now c.ask_room.new.self c.free_first.new.self (λ k. ⊥) c.in-Ok.ensures.minds c.free_first.ensures.minds
@@ -53,3 +55,6 @@ returns-in-Ok-clause-sure g c = ask-sure _ c.free_first.result c.args.self.now c
 
 pub returns-in-Err-clause-sure : goal.returns-in-Err-clause-sure
 returns-in-Err-clause-sure g c = λ low room. c.in-Err.ensures.sure low
+
+pub returns-in-Ok-clause-gone : goal.returns-in-Ok-clause-gone
+returns-in-Ok-clause-gone g c = gone-where c.free_first.result g.H.Host c.args.self.now c.ask_room.new.self c.free_first.new.self c.args.words 27 c.in-Ok.ensures.roomy c.free_first.ensures.gone

@@ -1,4 +1,4 @@
-use Rattle.std.proofs.Common.{true, refl, sym, ap, subst}
+use Rattle.std.proofs.Common.{◌+◌, ◌/◌, ◌≤◌, true, refl, sym, ap, subst}
 use Rattle.leaf_lambda.specs.Parts.{core_of}
 use Rattle.method_cache.specs.Found.{found}
 use Rattle.object_memory.specs.Told.{Told, IsReady}
@@ -10,6 +10,7 @@ use Rattle.loom_memory.proofs.ExactLaws.{exact-caching}
 use Rattle.loom_memory.proofs.MarkingLaws.{IsCaching, ledger-told, ledger-kept, ledger-over, path-begun}
 use Rattle.loom_memory.specs.Residents.{fetched}
 use Rattle.loom_memory.proofs.GentleLaws.{remains-refl}
+use Rattle.loom_memory.proofs.DeadLaws.{thin-of}
 use Rattle.loom_memory.proofs.memory.LoomMemory.begin_path.Goals as goal
 use Rattle.loom_memory.proofs.memory.LoomMemory.begin_path.Given as given
 
@@ -36,7 +37,9 @@ sound-of g c =
     record {
       kept = ledger-kept m.parts m.regs m.pinned m.ledger (record c.refresh.new.k { begun = true }) c.requires.kept (caching g c) c.refresh.ensures.cached;
       over = ledger-over g.H.Host m.disk.host.now m.disk.rest (core_of m.parts) m.ledger (record c.refresh.new.k { begun = true }) c.requires.over (caching g c);
+      soon = subst (λ (k : Ledger). m.due ≤ k.next + k.entries / 8) (sym c.refresh.ensures.ledger) c.requires.soon;
       exact = exact-caching g.H.Host m.parts m.disk.host.now m.disk.rest m.ledger (record c.refresh.new.k { begun = true }) c.requires.exact (caching g c);
+      thin = thin-of g.H.Host c.args.self.now _ c.requires.thin (λ on. on) (ap (λ (t : Told). t.heap) (returns-clause-told g c)) (ap (λ (t : Told). t.regs) (returns-clause-told g c)) (ap (λ (t : Told). t.slots) (returns-clause-told g c));
     }
 
 pub returns-clause-fit : goal.returns-clause-fit

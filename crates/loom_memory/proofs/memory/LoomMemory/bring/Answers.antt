@@ -8,7 +8,10 @@ use Rattle.leaf_lambda.specs.Parts.{core_of}
 use Rattle.loom_memory.specs.Memory.{loom_told}
 use Rattle.loom_memory.proofs.AccessLaws.{quiet-ready}
 use Rattle.purger.proofs.RoomLaws.{some-of, none-of}
-use Rattle.loom_memory.proofs.BringLaws.{ok-after, err-at, quiet-same}
+use Rattle.loom_memory.proofs.BringLaws.{err-at, quiet-same}
+use Rattle.loom_memory.proofs.AskLaws.{ask-thinned}
+use Rattle.loom_memory.proofs.FirstRoomLaws.{gone-read}
+use Rattle.loom_memory.proofs.MakingLaws.{quiet-thinned}
 use Rattle.object_table.specs.Entries.{is_used}
 use Rattle.loom_memory.specs.Residents.{fetched}
 use Rattle.loom_memory.proofs.GentleLaws.{count-after, fetched-same, brought-gentle, no-body}
@@ -20,23 +23,27 @@ use Rattle.loom_memory.proofs.OneLaws.{brings-leaf, brings-none}
 use Rattle.loom_memory.proofs.memory.LoomMemory.bring.Goals as goal
 use Rattle.loom_memory.proofs.memory.LoomMemory.bring.Given as given
 
-pub entry-requires-clause-within : goal.entry-requires-clause-within
+pub used_entry-requires : goal.used_entry-requires
 unfolding core_of
-entry-requires-clause-within g c = c.requires.sound.kept.parts.core.within c.args.s.0 (outside-used (core_of c.args.self.now.parts) c.args.s.0 c.requires.sound.kept.parts.core c.requires.out)
+used_entry-requires g c = outside-used (core_of c.args.self.now.parts) c.args.s.0 c.requires.sound.kept.parts.core c.requires.out
 
-pub entry-requires-clause-short : goal.entry-requires-clause-short
-entry-requires-clause-short g c = c.requires.sound.kept.parts.core.short c.args.s.0 (outside-used (core_of c.args.self.now.parts) c.args.s.0 c.requires.sound.kept.parts.core c.requires.out)
+pub returns-then-is_some-clause-thinned : goal.returns-then-is_some-clause-thinned
+returns-then-is_some-clause-thinned g c = quiet-thinned (loom_told g.H.Host c.args.self.now) (loom_told g.H.Host c.args.self.now) (quiet-same g.H.Host c.args.self.now) c.requires.ready
 
-pub returns-then-is_some-clause-quiet : goal.returns-then-is_some-clause-quiet
-returns-then-is_some-clause-quiet g c = quiet-same g.H.Host c.args.self.now
+pub returns-then-is_some-clause-gone : goal.returns-then-is_some-clause-gone
+unfolding core_of
+returns-then-is_some-clause-gone g c = λ told leaf.
+    let there = some-of c.place.result c.is_some.result c.is_some.ensures c.if-is_some.true in
+    let both : None ≡ Some there.0 = sym leaf ∙ ap (λ (e : Entry). place_of e.state) (sym c.used_entry.ensures) ∙ sym c.place.ensures ∙ there.1 in
+    absurd (cc)
 
 pub returns-then-is_some-clause-there : goal.returns-then-is_some-clause-there
 unfolding core_of
-returns-then-is_some-clause-there g c = let there = some-of c.place.result c.is_some.result c.is_some.ensures c.if-is_some.true in (there.0, ap (λ (e : Entry). place_of e.state) (sym c.entry.ensures) ∙ sym c.place.ensures ∙ there.1)
+returns-then-is_some-clause-there g c = let there = some-of c.place.result c.is_some.result c.is_some.ensures c.if-is_some.true in (there.0, ap (λ (e : Entry). place_of e.state) (sym c.used_entry.ensures) ∙ sym c.place.ensures ∙ there.1)
 
 pub look-requires-clause-leaf : goal.look-requires-clause-leaf
 unfolding core_of
-look-requires-clause-leaf g c = (outside-used (core_of c.args.self.now.parts) c.args.s.0 c.requires.sound.kept.parts.core c.requires.out, ap (λ (e : Entry). place_of e.state) (sym c.entry.ensures) ∙ sym c.place.ensures ∙ none-of c.place.result c.is_some.result c.is_some.ensures c.if-is_some.false)
+look-requires-clause-leaf g c = (outside-used (core_of c.args.self.now.parts) c.args.s.0 c.requires.sound.kept.parts.core c.requires.out, ap (λ (e : Entry). place_of e.state) (sym c.used_entry.ensures) ∙ sym c.place.ensures ∙ none-of c.place.result c.is_some.result c.is_some.ensures c.if-is_some.false)
 
 pub bring_leaf-requires-clause-ready : goal.bring_leaf-requires-clause-ready
 bring_leaf-requires-clause-ready g c = quiet-ready (loom_told g.H.Host c.args.self.now) (loom_told g.H.Host c.look.new.self) c.in-Ok.ensures.quiet c.requires.ready
@@ -46,10 +53,21 @@ bring_leaf-requires-clause-out g c = subst (λ (p : Parts). 1 ≤ outside (core_
 
 pub bring_leaf-requires-clause-leaf : goal.bring_leaf-requires-clause-leaf
 unfolding core_of
-bring_leaf-requires-clause-leaf g c = subst (λ (p : Parts). place_of ((core_of p).entries c.args.s.0).state ≡ None) (sym c.in-Ok.ensures.parts) (ap (λ (e : Entry). place_of e.state) (sym c.entry.ensures) ∙ sym c.place.ensures ∙ none-of c.place.result c.is_some.result c.is_some.ensures c.if-is_some.false)
+bring_leaf-requires-clause-leaf g c = subst (λ (p : Parts). place_of ((core_of p).entries c.args.s.0).state ≡ None) (sym c.in-Ok.ensures.parts) (ap (λ (e : Entry). place_of e.state) (sym c.used_entry.ensures) ∙ sym c.place.ensures ∙ none-of c.place.result c.is_some.result c.is_some.ensures c.if-is_some.false)
 
-pub returns-in-Ok-clause-quiet : goal.returns-in-Ok-clause-quiet
-returns-in-Ok-clause-quiet g c = ok-after c.bring_leaf.result (loom_told g.H.Host c.args.self.now) (loom_told g.H.Host c.look.new.self) (loom_told g.H.Host c.bring_leaf.new.self) c.in-Ok.ensures.quiet c.bring_leaf.ensures.quiet
+pub returns-in-Ok-clause-thinned : goal.returns-in-Ok-clause-thinned
+returns-in-Ok-clause-thinned g c =
+    let t = loom_told g.H.Host c.args.self.now in
+    let u = loom_told g.H.Host c.look.new.self in
+    ask-thinned c.bring_leaf.result t u (loom_told g.H.Host c.bring_leaf.new.self) (quiet-thinned t u c.in-Ok.ensures.quiet c.requires.ready) c.bring_leaf.ensures.thinned
+
+pub returns-in-Ok-clause-gone : goal.returns-in-Ok-clause-gone
+returns-in-Ok-clause-gone g c =
+    let m = c.args.self.now in
+    let u = c.look.new.self in
+    gone-read c.bring_leaf.result g.H.Host m u c.bring_leaf.new.self c.args.s.0 c.in-Ok.words c.in-Ok.ensures.sound
+    (subst (λ (p : Parts). is_used ((core_of p).entries c.args.s.0).state ≡ true) (sym c.in-Ok.ensures.parts) (outside-used (core_of m.parts) c.args.s.0 c.requires.sound.kept.parts.core c.requires.out))
+    c.in-Ok.ensures.parts c.in-Ok.ensures.quiet c.in-Ok.ensures.sized c.in-Ok.ensures.ledger c.in-Ok.ensures.due c.bring_leaf.ensures.gone
 
 pub returns-in-Ok-clause-err : goal.returns-in-Ok-clause-err
 returns-in-Ok-clause-err g c = err-at c.bring_leaf.result (loom_told g.H.Host c.args.self.now) (loom_told g.H.Host c.look.new.self) (loom_told g.H.Host c.bring_leaf.new.self) ((core_of c.args.self.now.parts).entries c.args.s.0).name ((core_of c.look.new.self.parts).entries c.args.s.0).name
@@ -62,14 +80,14 @@ pub returns-then-is_some-clause-counted : goal.returns-then-is_some-clause-count
 unfolding core_of
 returns-then-is_some-clause-counted g c = λ leaf.
     let there = some-of c.place.result c.is_some.result c.is_some.ensures c.if-is_some.true in
-    let both : None ≡ Some there.0 = sym leaf ∙ ap (λ (e : Entry). place_of e.state) (sym c.entry.ensures) ∙ sym c.place.ensures ∙ there.1 in
+    let both : None ≡ Some there.0 = sym leaf ∙ ap (λ (e : Entry). place_of e.state) (sym c.used_entry.ensures) ∙ sym c.place.ensures ∙ there.1 in
     absurd (cc)
 
 pub returns-then-is_some-clause-gentle : goal.returns-then-is_some-clause-gentle
 unfolding core_of
 returns-then-is_some-clause-gentle g c = λ told leaf room.
     let there = some-of c.place.result c.is_some.result c.is_some.ensures c.if-is_some.true in
-    let both : None ≡ Some there.0 = sym leaf ∙ ap (λ (e : Entry). place_of e.state) (sym c.entry.ensures) ∙ sym c.place.ensures ∙ there.1 in
+    let both : None ≡ Some there.0 = sym leaf ∙ ap (λ (e : Entry). place_of e.state) (sym c.used_entry.ensures) ∙ sym c.place.ensures ∙ there.1 in
     absurd (cc)
 
 pub returns-in-Ok-clause-counted : goal.returns-in-Ok-clause-counted
@@ -88,13 +106,13 @@ returns-then-is_some-clause-idle g c = λ at is. refl
 
 pub returns-in-Ok-clause-idle : goal.returns-in-Ok-clause-idle
 unfolding core_of
-returns-in-Ok-clause-idle g c = no-body (c.bring_leaf.new.self ≡ c.args.self.now) c.bring_leaf.result (place_of ((core_of c.args.self.now.parts).entries c.args.s.0).state) (ap (λ (e : Entry). place_of e.state) (sym c.entry.ensures) ∙ sym c.place.ensures ∙ none-of c.place.result c.is_some.result c.is_some.ensures c.if-is_some.false)
+returns-in-Ok-clause-idle g c = no-body (c.bring_leaf.new.self ≡ c.args.self.now) c.bring_leaf.result (place_of ((core_of c.args.self.now.parts).entries c.args.s.0).state) (ap (λ (e : Entry). place_of e.state) (sym c.used_entry.ensures) ∙ sym c.place.ensures ∙ none-of c.place.result c.is_some.result c.is_some.ensures c.if-is_some.false)
 
 pub returns-then-is_some-clause-tested : goal.returns-then-is_some-clause-tested
 unfolding core_of
 returns-then-is_some-clause-tested g c = λ leaf.
     let there = some-of c.place.result c.is_some.result c.is_some.ensures c.if-is_some.true in
-    let both : None ≡ Some there.0 = sym leaf ∙ ap (λ (e : Entry). place_of e.state) (sym c.entry.ensures) ∙ sym c.place.ensures ∙ there.1 in
+    let both : None ≡ Some there.0 = sym leaf ∙ ap (λ (e : Entry). place_of e.state) (sym c.used_entry.ensures) ∙ sym c.place.ensures ∙ there.1 in
     absurd (cc)
 
 pub returns-in-Ok-clause-tested : goal.returns-in-Ok-clause-tested
@@ -122,7 +140,7 @@ returns-then-is_some-clause-brings g c = brings-none c.args.self.now c.args.self
 
 leaf-of : (g : given.Over) (c : goal.After-bring_leaf g) → place_of ((core_of c.args.self.now.parts).entries c.args.s.0).state ≡ None
 unfolding core_of
-leaf-of g c = ap (λ (e : Entry). place_of e.state) (sym c.entry.ensures) ∙ sym c.place.ensures ∙ none-of c.place.result c.is_some.result c.is_some.ensures c.if-is_some.false
+leaf-of g c = ap (λ (e : Entry). place_of e.state) (sym c.used_entry.ensures) ∙ sym c.place.ensures ∙ none-of c.place.result c.is_some.result c.is_some.ensures c.if-is_some.false
 
 pub returns-in-Ok-clause-brings : goal.returns-in-Ok-clause-brings
 returns-in-Ok-clause-brings g c = brings-leaf c.bring_leaf.result c.args.self.now c.look.new.self c.bring_leaf.new.self _ c.look.ensures.brings (leaf-of g c) c.bring_leaf.ensures.counted c.bring_leaf.ensures.away

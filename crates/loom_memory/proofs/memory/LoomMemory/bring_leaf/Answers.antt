@@ -8,65 +8,74 @@ use Rattle.leaf_lambda.specs.Parts.{core_of}
 use Rattle.disk_objects.specs.Function.{disk_of}
 use Rattle.loom_memory.specs.declared.ledger.Ledger.{Ledger}
 use Rattle.loom_memory.specs.Memory.{loom_told, IsRefusedAt}
-use Rattle.loom_memory.proofs.AccessLaws.{quiet-ready, quiet-trans}
-use Rattle.loom_memory.proofs.CallLaws.{leaf-words, refused-at}
-use Rattle.loom_memory.proofs.BringLaws.{leaf-still, still-read, read-sized, unfit}
-use Rattle.loom_memory.proofs.GentleLaws.{fetched-same, gentle-trans}
+use Rattle.loom_memory.proofs.CallLaws.{leaf-words}
+use Rattle.loom_memory.proofs.BringLaws.{read-sized, unfit}
+use Rattle.loom_memory.proofs.FirstRoomLaws.{alive-quiet, leaf-then}
+use Rattle.loom_memory.proofs.FreedLaws.{at-freed}
+use Rattle.loom_memory.proofs.MakingLaws.{quiet-thinned, thinned-ready, thinned-trans}
+use Rattle.loom_memory.proofs.GentleLaws.{gentle-trans}
 use Rattle.loom_memory.proofs.DamageLaws.{full-damage}
 use Rattle.loom_memory.proofs.MindLaws.{minds-then}
 use Rattle.loom_memory.proofs.memory.LoomMemory.bring_leaf.Goals as goal
 
 pub come-requires-clause-leaf : goal.come-requires-clause-leaf
-come-requires-clause-leaf g c = let still = leaf-still c.args.self.now.pinned (core_of c.args.self.now.parts) (core_of c.clear.new.self.parts) c.args.s.0 c.requires.sound.kept.parts.core c.in-Ok.ensures.sound.kept.parts.core c.in-Ok.ensures.calm c.in-Ok.ensures.leaves c.requires.out c.requires.leaf in (still.used, still.leaf)
+come-requires-clause-leaf g c = let still = leaf-then c.args.self.now.pinned (core_of c.args.self.now.parts) (core_of c.clear_first.new.self.parts) c.args.s.0 c.requires.sound.kept.parts.core c.in-Ok.ensures.sound.kept.parts.core c.in-Ok.ensures.calm c.requires.out (c.in-Ok.ensures.leaf c.args.s.0 c.requires.out c.requires.leaf) in (still.used, still.leaf)
 
 pub come-requires-clause-record : goal.come-requires-clause-record
-come-requires-clause-record g c = (still-read g.H.Host c.args.self.now c.clear.new.self c.args.s.0 c.args.words c.requires.sound c.in-Ok.ensures.sound c.in-Ok.ensures.calm c.in-Ok.ensures.leaves c.in-Ok.ensures.quiet c.in-Ok.ensures.buf c.requires.out c.requires.leaf c.requires.record).record_there
+come-requires-clause-record g c = (c.in-Ok.ensures.record c.args.s.0 c.args.words c.requires.out c.requires.leaf c.requires.record).record_there
 
 pub come-requires-clause-there : goal.come-requires-clause-there
-come-requires-clause-there g c = (still-read g.H.Host c.args.self.now c.clear.new.self c.args.s.0 c.args.words c.requires.sound c.in-Ok.ensures.sound c.in-Ok.ensures.calm c.in-Ok.ensures.leaves c.in-Ok.ensures.quiet c.in-Ok.ensures.buf c.requires.out c.requires.leaf c.requires.record).there
+come-requires-clause-there g c = (c.in-Ok.ensures.record c.args.s.0 c.args.words c.requires.out c.requires.leaf c.requires.record).there
 
 pub come-requires-clause-room : goal.come-requires-clause-room
 come-requires-clause-room g c =
     let most = (c.in-Ok.ensures.room c.if-enough.true).0 in
-    let size = (still-read g.H.Host c.args.self.now c.clear.new.self c.args.s.0 c.args.words c.requires.sound c.in-Ok.ensures.sound c.in-Ok.ensures.calm c.in-Ok.ensures.leaves c.in-Ok.ensures.quiet c.in-Ok.ensures.buf c.requires.out c.requires.leaf c.requires.record).sized in
+    let size = (c.in-Ok.ensures.record c.args.s.0 c.args.words c.requires.out c.requires.leaf c.requires.record).sized in
     omega (arith, most, size)
 
 pub come-requires-clause-spare : goal.come-requires-clause-spare
 come-requires-clause-spare g c = (c.in-Ok.ensures.room c.if-enough.true).1
 
-pub returns-then-enough-clause-quiet : goal.returns-then-enough-clause-quiet
-returns-then-enough-clause-quiet g c = quiet-trans (loom_told g.H.Host c.args.self.now) (loom_told g.H.Host c.clear.new.self) (loom_told g.H.Host c.come.new.self) c.in-Ok.ensures.quiet c.come.ensures.quiet
+pub returns-then-enough-clause-thinned : goal.returns-then-enough-clause-thinned
+returns-then-enough-clause-thinned g c =
+    let t = loom_told g.H.Host c.args.self.now in
+    let u = loom_told g.H.Host c.clear_first.new.self in
+    let v = loom_told g.H.Host c.come.new.self in
+    thinned-trans t u v c.in-Ok.ensures.thinned (quiet-thinned u v c.come.ensures.quiet (thinned-ready t u c.in-Ok.ensures.thinned c.requires.ready))
+
+pub returns-then-enough-clause-gone : goal.returns-then-enough-clause-gone
+returns-then-enough-clause-gone g c = λ lacks due. alive-quiet (loom_told g.H.Host c.clear_first.new.self) (loom_told g.H.Host c.come.new.self) c.come.ensures.quiet (c.in-Ok.ensures.gone lacks due)
 
 pub full-requires-in-Ok-clause-ready : goal.full-requires-in-Ok-clause-ready
-full-requires-in-Ok-clause-ready g c = quiet-ready (loom_told g.H.Host c.args.self.now) (loom_told g.H.Host c.clear.new.self) c.in-Ok.ensures.quiet c.requires.ready
+full-requires-in-Ok-clause-ready g c = thinned-ready (loom_told g.H.Host c.args.self.now) (loom_told g.H.Host c.clear_first.new.self) c.in-Ok.ensures.thinned c.requires.ready
 
 pub full-requires-in-Ok-clause-used : goal.full-requires-in-Ok-clause-used
-full-requires-in-Ok-clause-used g c = (leaf-still c.args.self.now.pinned (core_of c.args.self.now.parts) (core_of c.clear.new.self.parts) c.args.s.0 c.requires.sound.kept.parts.core c.in-Ok.ensures.sound.kept.parts.core c.in-Ok.ensures.calm c.in-Ok.ensures.leaves c.requires.out c.requires.leaf).used
+full-requires-in-Ok-clause-used g c = (leaf-then c.args.self.now.pinned (core_of c.args.self.now.parts) (core_of c.clear_first.new.self.parts) c.args.s.0 c.requires.sound.kept.parts.core c.in-Ok.ensures.sound.kept.parts.core c.in-Ok.ensures.calm c.requires.out (c.in-Ok.ensures.leaf c.args.s.0 c.requires.out c.requires.leaf)).used
 
 pub full-requires-in-Ok-clause-sized : goal.full-requires-in-Ok-clause-sized
 unfolding loom_told
 full-requires-in-Ok-clause-sized g c = λ told.
     let m = c.args.self.now in
-    let n = c.clear.new.self in
-    let still = leaf-still m.pinned (core_of m.parts) (core_of n.parts) c.args.s.0 c.requires.sound.kept.parts.core c.in-Ok.ensures.sound.kept.parts.core c.in-Ok.ensures.calm c.in-Ok.ensures.leaves c.requires.out c.requires.leaf in
+    let n = c.clear_first.new.self in
+    let still = leaf-then m.pinned (core_of m.parts) (core_of n.parts) c.args.s.0 c.requires.sound.kept.parts.core c.in-Ok.ensures.sound.kept.parts.core c.in-Ok.ensures.calm c.requires.out (c.in-Ok.ensures.leaf c.args.s.0 c.requires.out c.requires.leaf) in
     leaf-words (g.H.Host.tells Work) (core_of n.parts) (disk_of g.H.Host n.disk.host.now n.disk.rest) n.ledger.next c.args.s.0 c.args.words told c.in-Ok.ensures.sound.kept.parts.core still.used still.leaf
     (read-sized (g.H.Host.tells Work) n.buf (disk_of g.H.Host n.disk.host.now n.disk.rest) ((core_of n.parts).entries c.args.s.0).name c.args.words
-    (still-read g.H.Host c.args.self.now c.clear.new.self c.args.s.0 c.args.words c.requires.sound c.in-Ok.ensures.sound c.in-Ok.ensures.calm c.in-Ok.ensures.leaves c.in-Ok.ensures.quiet c.in-Ok.ensures.buf c.requires.out c.requires.leaf c.requires.record))
+    (c.in-Ok.ensures.record c.args.s.0 c.args.words c.requires.out c.requires.leaf c.requires.record))
 
 pub full-requires-in-Ok-clause-unfit : goal.full-requires-in-Ok-clause-unfit
 full-requires-in-Ok-clause-unfit g c = λ need is.
-    let n = c.clear.new.self in
-    let still = leaf-still c.args.self.now.pinned (core_of c.args.self.now.parts) (core_of n.parts) c.args.s.0 c.requires.sound.kept.parts.core c.in-Ok.ensures.sound.kept.parts.core c.in-Ok.ensures.calm c.in-Ok.ensures.leaves c.requires.out c.requires.leaf in
+    let n = c.clear_first.new.self in
+    let still = leaf-then c.args.self.now.pinned (core_of c.args.self.now.parts) (core_of n.parts) c.args.s.0 c.requires.sound.kept.parts.core c.in-Ok.ensures.sound.kept.parts.core c.in-Ok.ensures.calm c.requires.out (c.in-Ok.ensures.leaf c.args.s.0 c.requires.out c.requires.leaf) in
     unfit n.parts n.regs n.pinned n.ledger c.args.s.0 c.args.words need (object_in (raw_of c.args.self.now.buf)) c.in-Ok.ensures.sound.kept (c.in-Ok.ensures.short c.if-enough.false) c.entries_are_counted.ensures c.chunks_never_overlap.ensures still.used still.leaf c.requires.record.sized is
 
 pub returns-else-enough-clause-err : goal.returns-else-enough-clause-err
 returns-else-enough-clause-err g c =
     let calm = c.in-Ok.ensures.calm in
-    refused-at (loom_told g.H.Host c.args.self.now) (loom_told g.H.Host c.clear.new.self) (loom_told g.H.Host c.full-in-Ok.new.self) ((core_of c.args.self.now.parts).entries c.args.s.0).name c.full-in-Ok.result c.in-Ok.ensures.quiet
-    (subst (λ (k : ℕ). IsRefusedAt (loom_told g.H.Host c.clear.new.self) (loom_told g.H.Host c.full-in-Ok.new.self) k c.full-in-Ok.result) (calm.live c.args.s.0 c.requires.out) c.full-in-Ok.ensures.err)
+    at-freed (loom_told g.H.Host c.args.self.now) (loom_told g.H.Host c.clear_first.new.self) (loom_told g.H.Host c.full-in-Ok.new.self) ((core_of c.args.self.now.parts).entries c.args.s.0).name c.full-in-Ok.result c.in-Ok.ensures.thinned
+    (subst (λ (k : ℕ). IsRefusedAt (loom_told g.H.Host c.clear_first.new.self) (loom_told g.H.Host c.full-in-Ok.new.self) k c.full-in-Ok.result) (calm.live c.args.s.0 c.requires.out) c.full-in-Ok.ensures.err)
 
 pub returns-in-Err-clause-err : goal.returns-in-Err-clause-err
-returns-in-Err-clause-err g c = λ a of target named silent none. c.in-Err.ensures.err a silent none
+returns-in-Err-clause-err g c = λ a of target named silent none. c.in-Err.ensures.err a of target silent none
 
 pub full-requires-clause-sized : goal.full-requires-clause-sized
 unfolding loom_told
@@ -82,10 +91,10 @@ pub full-requires-clause-used : goal.full-requires-clause-used
 full-requires-clause-used g c = outside-used (core_of c.args.self.now.parts) c.args.s.0 c.requires.sound.kept.parts.core c.requires.out
 
 pub returns-then-enough-clause-counted : goal.returns-then-enough-clause-counted
-returns-then-enough-clause-counted g c = c.come.ensures.counted ∙ ap counted (fetched-same c.args.self.now c.clear.new.self c.in-Ok.ensures.ledger)
+returns-then-enough-clause-counted g c = c.come.ensures.counted ∙ ap counted c.clear_first.ensures.brings
 
 pub returns-then-enough-clause-gentle : goal.returns-then-enough-clause-gentle
-returns-then-enough-clause-gentle g c = λ room. gentle-trans g.H.Host c.args.self.now c.clear.new.self c.come.new.self (c.in-Ok.ensures.gentle room) c.come.ensures.gentle
+returns-then-enough-clause-gentle g c = λ room. gentle-trans g.H.Host c.args.self.now c.clear_first.new.self c.come.new.self (c.in-Ok.ensures.gentle room) c.come.ensures.gentle
 
 pub returns-then-enough-clause-next : goal.returns-then-enough-clause-next
 returns-then-enough-clause-next g c = c.come.ensures.next ∙ ap (λ (k : Ledger). k.next) c.in-Ok.ensures.ledger
@@ -108,6 +117,6 @@ returns-in-Err-clause-damage g c = λ room. absurd (c.in-Err.ensures.sure room)
 pub returns-then-enough-clause-minds : goal.returns-then-enough-clause-minds
 returns-then-enough-clause-minds g c =
     let m = c.args.self.now in
-    let u = c.clear.new.self in
+    let u = c.clear_first.new.self in
     let s = c.args.s.0 in
     minds-then g.H.Host m u c.come.new.self (λ k. ⊥) (λ k. k ≡ ((core_of u.parts).entries s).name) (λ k. k ≡ ((core_of m.parts).entries s).name) (λ k no. absurd no) (λ k is. is ∙ c.in-Ok.ensures.calm.live s c.requires.out) c.in-Ok.ensures.minds c.come.ensures.minds

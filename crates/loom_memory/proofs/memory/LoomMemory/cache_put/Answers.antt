@@ -8,7 +8,7 @@ use Rattle.core_view.specs.Counts.{marked_of}
 use Rattle.leaf_lambda.specs.Parts.{core_of}
 use Rattle.method_cache.specs.Found.{found}
 use Rattle.loom_memory.specs.Cache.{has_mark, cache_of}
-use Rattle.loom_memory.specs.Memory.{loom_told, loom_outside, word_in, IsSound}
+use Rattle.loom_memory.specs.Memory.{loom_told, loom_outside, word_in, IsThin, IsSound}
 use Rattle.loom_memory.proofs.CacheLaws.{mark-name}
 use Rattle.loom_memory.proofs.RowLaws.{marked-word, put-cached, put-others, put-rows}
 use Rattle.loom_memory.proofs.MarkingLaws.{ledger-kept, ledger-over, marked-means, put-row, path-marked, path-begins, unmarked-whole}
@@ -84,13 +84,16 @@ returns-clause-remembered g c = λ yes_. record {
 }
 
 sound-of : (g : given.Over) (c : goal.After-put g) → IsSound g.H.Host (record c.args.self.now { ledger = record c.args.self.now.ledger { rows = c.put.new.self } })
+unfolding loom_told IsThin
 sound-of g c =
     let m = c.args.self.now in
     record {
       kept = ledger-kept m.parts m.regs m.pinned m.ledger (record m.ledger { rows = c.put.new.self }) c.requires.sound.kept refl
           (put-cached (core_of m.parts) (found m.ledger.rows) (found c.put.new.self) m.ledger.mark c.word_of-c.result c.word_of-s.result c.word_of-m.result c.requires.sound.kept.cached c.put.ensures (class-of g c).0 (selector-of g c).0 (method-of g c).0);
       over = ledger-over g.H.Host m.disk.host.now m.disk.rest (core_of m.parts) m.ledger (record m.ledger { rows = c.put.new.self }) c.requires.sound.over refl;
+      soon = c.requires.sound.soon;
       exact = c.requires.sound.exact;
+      thin = c.requires.sound.thin;
     }
 
 ready-of : (g : given.Over) (c : goal.After-put g) → IsReady (loom_told g.H.Host c.args.self.now) → IsReady (loom_told g.H.Host (record c.args.self.now { ledger = record c.args.self.now.ledger { rows = c.put.new.self } }))

@@ -96,3 +96,9 @@ returns-then-is_name-clause-brings g c = brings-where c.args.self.now c.class_of
 
 pub returns-clause-brings : goal.returns-clause-brings
 returns-clause-brings g c = brings-none c.args.self.now c.put_name.new.self _ c.put_name.ensures.brings
+
+pub returns-then-is_name-clause-gone : goal.returns-then-is_name-clause-gone
+returns-then-is_name-clause-gone g c = λ ref. c.class_of_object.ensures.gone
+
+pub returns-clause-gone : goal.returns-clause-gone
+returns-clause-gone g c = λ ref. absurd (subst IsRef (number-is g c) ref)

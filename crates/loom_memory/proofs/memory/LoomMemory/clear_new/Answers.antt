@@ -6,6 +6,7 @@ use Rattle.loom_memory.proofs.AddLaws.{fault-lost, fault-making}
 use Rattle.object_memory.specs.declared.fault.MemFault.{MemFault}
 use Rattle.loom_memory.specs.Makings.{IsLost}
 use Rattle.loom_memory.proofs.SparedLaws.{rest-spared, spared-trans}
+use Rattle.std.proofs.Common.{◌∙◌}
 use Rattle.loom_memory.proofs.memory.LoomMemory.clear_new.Goals as goal
 
 pub returns-in-Disk-clause-err : goal.returns-in-Disk-clause-err
@@ -26,3 +27,12 @@ returns-in-Disk-clause-sure g c = λ room. absurd (let is = c.in-Err.ensures.sur
 
 pub returns-in-Short-clause-enough : goal.returns-in-Short-clause-enough
 returns-in-Short-clause-enough g c = λ room. absurd (let is = c.in-Err.ensures.sure room in cc)
+
+pub returns-in-Disk-clause-fetches : goal.returns-in-Disk-clause-fetches
+returns-in-Disk-clause-fetches g c = c.refuse.ensures.brings ∙ c.room.ensures.brings
+
+pub returns-in-Ok-clause-fetches : goal.returns-in-Ok-clause-fetches
+returns-in-Ok-clause-fetches g c = c.room.ensures.brings
+
+pub returns-in-Short-clause-fetches : goal.returns-in-Short-clause-fetches
+returns-in-Short-clause-fetches g c = c.room.ensures.brings

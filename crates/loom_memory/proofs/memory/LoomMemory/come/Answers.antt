@@ -1,4 +1,4 @@
-use Rattle.std.proofs.Common.{◌≡◌, [], refl, sym, ◌∙◌, ap, subst, arith, IsTrue}
+use Rattle.std.proofs.Common.{◌+◌, ◌/◌, ◌≤◌, ◌≡◌, [], refl, sym, ◌∙◌, ap, subst, arith, IsTrue}
 use Rattle.loom_host.specs.declared.outside.Role.TheVariants.{Work}
 use Rattle.loom_host.proofs.WorkLaws.{read-itself}
 use Rattle.object_record.specs.Buffer.{raw_of}
@@ -23,6 +23,7 @@ use Rattle.loom_memory.proofs.FieldLaws.{read-only}
 use Rattle.loom_memory.proofs.CacheLaws.{cache-same}
 use Rattle.loom_memory.proofs.GentleLaws.{within-remains}
 use Rattle.loom_memory.proofs.MindLaws.{minds-come}
+use Rattle.loom_memory.proofs.DeadLaws.{thin-quiet}
 use Rattle.loom_memory.proofs.memory.LoomMemory.come.Goals as goal
 use Rattle.loom_memory.proofs.memory.LoomMemory.come.Given as given
 
@@ -77,8 +78,10 @@ returns-clause-sound g c =
         roomy = c.requires.sound.over.roomy;
         valued = λ told. subst (λ (d : Disk). IsValued d) (sym (keeps-of g c told).held) (c.requires.sound.over.valued told);
       };
+      soon = subst (λ (k : Ledger). m.due ≤ k.next + k.entries / 8) (sym c.count_fetch.ensures) c.requires.sound.soon;
       exact = exact-next g.H.Host q m.disk.host.now m.disk.rest m.ledger.next c.count_fetch.new.self.next [] (ap (λ (k : Ledger). k.next) c.count_fetch.ensures)
           (exact-brought g.H.Host m.parts q m.disk.host.now m.disk.host.now m.disk.rest m.disk.rest c.args.s.0 m.ledger.next c.requires.sound.exact refl (read-itself g.H.Host m.disk.host.now) c.translate_in.ensures.parts (keeps-of g c) c.translate_in.ensures.naming c.translate_in.ensures.within);
+      thin = thin-quiet g.H.Host c.args.self.now _ c.requires.sound.thin (λ on. on) (returns-clause-quiet g c);
     }
 
 pub returns-clause-gentle : goal.returns-clause-gentle

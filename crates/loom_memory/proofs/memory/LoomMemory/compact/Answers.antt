@@ -16,6 +16,7 @@ use Rattle.loom_memory.proofs.CacheLaws.{cache-same}
 use Rattle.loom_memory.proofs.GentleLaws.{fetched-same, purged-remains, read-refl, rest-refl}
 use Rattle.purger.proofs.MindLaws.{purged-came}
 use Rattle.loom_memory.proofs.MindLaws.{came-remains}
+use Rattle.loom_memory.proofs.DeadLaws.{thin-quiet}
 use Rattle.loom_memory.proofs.memory.LoomMemory.compact.Goals as goal
 use Rattle.loom_memory.proofs.memory.LoomMemory.compact.Given as given
 
@@ -54,7 +55,9 @@ returns-clause-fit g c =
           based = over.based;
           valued = λ told. subst (λ (d : Disk). IsValued d) (sym (c.compact.ensures.stays (disk_of g.H.Host m.disk.host.now m.disk.rest) (over.backed told)).held) (over.valued told);
         };
+        soon = c.requires.fit.sound.soon;
         exact = exact-counts g.H.Host m.parts c.compact.new.p m.disk.host.now m.disk.rest m.ledger.next c.requires.fit.sound.exact c.compact.ensures.parts c.compact.ensures.stays c.compact.ensures.counts;
+        thin = thin-quiet g.H.Host m _ c.requires.fit.sound.thin (λ on. on) (quiet-of g c);
       };
       ready = quiet-ready (loom_told g.H.Host m) (loom_told g.H.Host (record m { parts = c.compact.new.p })) (quiet-of g c) c.requires.fit.ready;
       lender = refl;

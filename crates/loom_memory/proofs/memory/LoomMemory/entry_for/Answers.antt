@@ -14,6 +14,7 @@ use Rattle.method_cache.specs.Found.{found}
 use Rattle.loom_memory.proofs.CacheLaws.{cache-same}
 use Rattle.loom_memory.proofs.GentleLaws.{steady-is}
 use Rattle.loom_memory.specs.Residents.{fetched}
+use Rattle.loom_memory.proofs.DeadLaws.{thin-told}
 use Rattle.loom_memory.proofs.memory.LoomMemory.entry_for.Goals as goal
 
 pub returns-clause-told : goal.returns-clause-told
@@ -35,8 +36,10 @@ returns-clause-sound g c =
     record {
       kept = calm-kept m.parts c.find_or_leaf.new.p m.regs m.pinned m.ledger c.requires.sound.kept (leaf-calm m.pinned (core_of m.parts) (core_of c.find_or_leaf.new.p) c.requires.sound.kept.parts.core c.find_or_leaf.ensures.parts.core step) c.find_or_leaf.ensures.parts (ref-tight (core_of m.parts) (core_of c.find_or_leaf.new.p) step.step c.requires.sound.kept.tight) (ap size_of c.find_or_leaf.ensures.segment);
       over = over-then g.H.Host m.disk.host.now m.disk.rest (core_of m.parts) (core_of c.find_or_leaf.new.p) m.ledger step.stays step.step c.requires.sound.over;
+      soon = c.requires.sound.soon;
       exact = exact-leaf g.H.Host c.find_or_leaf.result m.parts c.find_or_leaf.new.p m.disk.host.now m.disk.rest m.ledger.next c.args.name c.requires.sound.exact c.find_or_leaf.ensures.parts step c.find_or_leaf.ensures.found c.find_or_leaf.ensures.only
           (none-same c.find_or_leaf.result (core_of m.parts) (core_of c.find_or_leaf.new.p) (spare_of m.parts) (spare_of c.find_or_leaf.new.p) c.args.name c.find_or_leaf.ensures.none c.find_or_leaf.ensures.few c.find_or_leaf.ensures.cost.0) c.requires.named;
+      thin = thin-told g.H.Host c.args.self.now _ c.requires.sound.thin (λ on. on) (returns-clause-told g c);
     }
 
 pub returns-clause-found : goal.returns-clause-found

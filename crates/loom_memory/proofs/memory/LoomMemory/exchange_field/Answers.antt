@@ -1,11 +1,11 @@
-use Rattle.std.proofs.Common.{◌≡◌, [], ◌∷◌, Some, refl, sym, ◌∙◌, ap, subst}
+use Rattle.std.proofs.Common.{true, IsTrue, ◌≡◌, [], ◌∷◌, Some, refl, sym, ◌∙◌, ap, subst}
 use Rattle.std.specs.List.{slice_index_or}
 use Rattle.long_names.specs.declared.value.Value.{Value}
 use Rattle.long_names.specs.Access.{Field, SetField, brought}
 use Rattle.loom_host.specs.declared.outside.Role.TheVariants.{Work}
 use Rattle.object_memory.specs.Told.{Told}
 use Rattle.object_table.specs.declared.entry.Entry.{Entry}
-use Rattle.object_table.specs.Entries.{place_of}
+use Rattle.object_table.specs.Entries.{is_short, is_used, place_of}
 use Rattle.disk_objects.specs.Function.{disk_of}
 use Rattle.core_view.specs.Words.{meant}
 use Rattle.core_view.specs.Held.{object_at}
@@ -19,11 +19,12 @@ use Rattle.loom_memory.proofs.RegLaws.{kept-rooted, few-held, register-held, old
 use Rattle.loom_memory.proofs.RecountLaws.{recount-kept, recount-marks, recount-over, recount-told, recount-place, recount-used, recount-name, recount-at, recount-meant, recount-mark}
 use Rattle.loom_memory.proofs.StoreLaws.{stored-is, stored-kept, stored-over, stored-between}
 use Rattle.loom_memory.proofs.LoadLaws.{field-before, stored-told}
-use Rattle.loom_memory.proofs.OwingLaws.{exact-raised, exact-exchanged, exact-lowered}
+use Rattle.loom_memory.proofs.OwingLaws.{IsExchange, exact-raised, exact-exchanged, exact-lowered}
 use Rattle.loom_memory.proofs.GentleLaws.{recount-none, recount-remains, remains-trans, rest-refl, store-remains}
 use Rattle.purger.proofs.MarkLaws.{Kept-trans, within-marks}
 use Rattle.loom_memory.proofs.MindLaws.{marks-keep}
 use Rattle.loom_memory.proofs.MindLaws.{came-remains, stored-came}
+use Rattle.loom_memory.proofs.LivingLaws.{thin-exchanged}
 use Rattle.loom_memory.proofs.memory.LoomMemory.exchange_field.Goals as goal
 use Rattle.loom_memory.proofs.memory.LoomMemory.exchange_field.Given as given
 
@@ -55,32 +56,37 @@ put_field-requires-clause-some g c = λ e. c.requires.sound.kept.filled c.args.f
 pub lower_word-requires-clause-used : goal.lower_word-requires-clause-used
 lower_word-requires-clause-used g c = λ is. (c.put_field.ensures.within.live c.args.old (recount-used (core_of c.args.self.now.parts) (core_of c.raise_word.new.p) c.args.old c.raise_word.ensures.recount ∙ c.requires.used is)).0
 
+pub note_gone-requires-clause-used : goal.note_gone-requires-clause-used
+note_gone-requires-clause-used g c = λ is.
+    recount-used (core_of c.put_field.new.p) (core_of c.lower_word.new.p) c.args.old c.lower_word.ensures.recount
+    ∙ (c.put_field.ensures.within.live c.args.old (recount-used (core_of c.args.self.now.parts) (core_of c.raise_word.new.p) c.args.old c.raise_word.ensures.recount ∙ c.requires.used is)).0
+
 -- ---- the three steps
 
-place-one : (g : given.Over) (c : goal.After-lower_word g) → place_of ((core_of c.raise_word.new.p).entries c.args.s.0).state ≡ Some c.args.at.place
+place-one : (g : given.Over) (c : goal.After-note_gone g) → place_of ((core_of c.raise_word.new.p).entries c.args.s.0).state ≡ Some c.args.at.place
 place-one g c = recount-place (core_of c.args.self.now.parts) (core_of c.raise_word.new.p) c.args.s.0 c.raise_word.ensures.recount ∙ c.requires.there.1.place
 
-kept-one : (g : given.Over) (c : goal.After-lower_word g) → IsKept c.raise_word.new.p c.args.self.now.regs c.args.self.now.pinned c.args.self.now.ledger
+kept-one : (g : given.Over) (c : goal.After-note_gone g) → IsKept c.raise_word.new.p c.args.self.now.regs c.args.self.now.pinned c.args.self.now.ledger
 kept-one g c = let m = c.args.self.now in recount-kept m.parts c.raise_word.new.p m.regs m.pinned m.ledger c.requires.sound.kept c.raise_word.ensures.parts c.raise_word.ensures.recount c.raise_word.ensures.segment
 
-kept-two : (g : given.Over) (c : goal.After-lower_word g) → IsKept c.put_field.new.p c.args.self.now.regs c.args.self.now.pinned c.args.self.now.ledger
+kept-two : (g : given.Over) (c : goal.After-note_gone g) → IsKept c.put_field.new.p c.args.self.now.regs c.args.self.now.pinned c.args.self.now.ledger
 kept-two g c = let m = c.args.self.now in stored-kept c.raise_word.new.p c.put_field.new.p m.regs m.pinned m.ledger c.args.s.0 c.args.at.place (kept-one g c) c.put_field.ensures.parts c.put_field.ensures.within (place-one g c) (ap (λ (e : Entry). place_of e.state) c.put_field.ensures.entry) (ap (λ (e : Entry). e.name) c.put_field.ensures.entry) c.put_field.ensures.size
 
-over-one : (g : given.Over) (c : goal.After-lower_word g) → IsOver g.H.Host c.args.self.now.disk.host.now c.args.self.now.disk.rest (core_of c.raise_word.new.p) c.args.self.now.ledger
+over-one : (g : given.Over) (c : goal.After-note_gone g) → IsOver g.H.Host c.args.self.now.disk.host.now c.args.self.now.disk.rest (core_of c.raise_word.new.p) c.args.self.now.ledger
 over-one g c = let m = c.args.self.now in recount-over g.H.Host m.disk.host.now m.disk.rest (core_of m.parts) (core_of c.raise_word.new.p) m.ledger c.requires.sound.over c.raise_word.ensures.recount
 
-over-two : (g : given.Over) (c : goal.After-lower_word g) → IsOver g.H.Host c.args.self.now.disk.host.now c.args.self.now.disk.rest (core_of c.put_field.new.p) c.args.self.now.ledger
+over-two : (g : given.Over) (c : goal.After-note_gone g) → IsOver g.H.Host c.args.self.now.disk.host.now c.args.self.now.disk.rest (core_of c.put_field.new.p) c.args.self.now.ledger
 over-two g c = let m = c.args.self.now in stored-over g.H.Host m.disk.host.now m.disk.rest (core_of c.raise_word.new.p) (core_of c.put_field.new.p) m.ledger c.args.s.0 (over-one g c) c.put_field.ensures.within (ap fresh_by c.put_field.ensures.entry) c.put_field.ensures.backed c.put_field.ensures.valued
 
-told-one : (g : given.Over) (c : goal.After-lower_word g) → told_of g.H.Host c.args.self.now.disk.host.now c.args.self.now.disk.rest (core_of c.raise_word.new.p) c.args.self.now.regs c.args.self.now.pinned c.args.self.now.ledger ≡ told_of g.H.Host c.args.self.now.disk.host.now c.args.self.now.disk.rest (core_of c.args.self.now.parts) c.args.self.now.regs c.args.self.now.pinned c.args.self.now.ledger
+told-one : (g : given.Over) (c : goal.After-note_gone g) → told_of g.H.Host c.args.self.now.disk.host.now c.args.self.now.disk.rest (core_of c.raise_word.new.p) c.args.self.now.regs c.args.self.now.pinned c.args.self.now.ledger ≡ told_of g.H.Host c.args.self.now.disk.host.now c.args.self.now.disk.rest (core_of c.args.self.now.parts) c.args.self.now.regs c.args.self.now.pinned c.args.self.now.ledger
 told-one g c = let m = c.args.self.now in recount-told g.H.Host m.disk.host.now m.disk.rest m.parts c.raise_word.new.p m.regs m.pinned m.ledger c.requires.sound.kept c.requires.sound.over c.raise_word.ensures.parts c.raise_word.ensures.recount
 
-told-three : (g : given.Over) (c : goal.After-lower_word g) → told_of g.H.Host c.args.self.now.disk.host.now c.args.self.now.disk.rest (core_of c.lower_word.new.p) c.args.self.now.regs c.args.self.now.pinned c.args.self.now.ledger ≡ told_of g.H.Host c.args.self.now.disk.host.now c.args.self.now.disk.rest (core_of c.put_field.new.p) c.args.self.now.regs c.args.self.now.pinned c.args.self.now.ledger
+told-three : (g : given.Over) (c : goal.After-note_gone g) → told_of g.H.Host c.args.self.now.disk.host.now c.args.self.now.disk.rest (core_of c.lower_word.new.p) c.args.self.now.regs c.args.self.now.pinned c.args.self.now.ledger ≡ told_of g.H.Host c.args.self.now.disk.host.now c.args.self.now.disk.rest (core_of c.put_field.new.p) c.args.self.now.regs c.args.self.now.pinned c.args.self.now.ledger
 told-three g c = let m = c.args.self.now in recount-told g.H.Host m.disk.host.now m.disk.rest c.put_field.new.p c.lower_word.new.p m.regs m.pinned m.ledger (kept-two g c) (over-two g c) c.lower_word.ensures.parts c.lower_word.ensures.recount
 
 -- ---- what they leave
 
-exact-one : (g : given.Over) (c : goal.After-lower_word g) → IsExact g.H.Host c.raise_word.new.p c.args.self.now.disk.host.now c.args.self.now.disk.rest c.args.self.now.ledger.next (meant (core_of c.raise_word.new.p).entries [] 0 (slice_index_or c.args.self.now.regs c.index.result 0) ∷ [])
+exact-one : (g : given.Over) (c : goal.After-note_gone g) → IsExact g.H.Host c.raise_word.new.p c.args.self.now.disk.host.now c.args.self.now.disk.rest c.args.self.now.ledger.next (meant (core_of c.raise_word.new.p).entries [] 0 (slice_index_or c.args.self.now.regs c.index.result 0) ∷ [])
 exact-one g c =
     let m = c.args.self.now in
     let w = slice_index_or m.regs c.index.result 0 in
@@ -89,9 +95,10 @@ exact-one g c =
     (λ is. outside-used (core_of m.parts) w c.requires.sound.kept.parts.core (register-held (core_of m.parts) m.regs m.pinned c.index.result w (kept-rooted m.parts m.regs m.pinned m.ledger c.requires.sound.kept) (old-there m.regs c.index.result c.index.result c.index.result refl refl c.index.ensures.within c.requires.sound.kept.many) is))
     c.raise_word.ensures.raised c.raise_word.ensures.same)
 
-exact-two : (g : given.Over) (c : goal.After-lower_word g) → IsExact g.H.Host c.put_field.new.p c.args.self.now.disk.host.now c.args.self.now.disk.rest c.args.self.now.ledger.next (meant (core_of c.args.self.now.parts).entries [] 0 c.args.old ∷ [])
+exchanged-of : (g : given.Over) (c : goal.After-note_gone g) → IsTrue (g.H.Host.tells Work) → IsExchange (core_of c.raise_word.new.p) (core_of c.put_field.new.p) (disk_of g.H.Host c.args.self.now.disk.host.now c.args.self.now.disk.rest) c.args.s.0 c.args.at.place c.args.i
+    (meant (core_of c.args.self.now.parts).entries [] 0 c.args.old) (meant (core_of c.raise_word.new.p).entries [] 0 (slice_index_or c.args.self.now.regs c.index.result 0))
 unfolding loom_told
-exact-two g c =
+exchanged-of g c = λ told.
     let m = c.args.self.now in
     let q = c.raise_word.new.p in
     let s = c.args.s.0 in
@@ -99,8 +106,7 @@ exact-two g c =
     let disk = disk_of g.H.Host m.disk.host.now m.disk.rest in
     let core = c.raise_word.ensures.parts.core in
     let used = placed-used ((core_of q).entries s).state p (place-one g c) in
-    exact-exchanged g.H.Host q c.put_field.new.p m.disk.host.now m.disk.rest m.ledger.next s p c.args.i (meant (core_of m.parts).entries [] 0 c.args.old) (meant (core_of q).entries [] 0 (slice_index_or m.regs c.index.result 0)) (exact-one g c)
-    (λ told. record {
+    record {
       core = c.put_field.ensures.parts.core;
       backed = c.put_field.ensures.backed disk ((over-one g c).backed told);
       place = place-one g c;
@@ -110,21 +116,13 @@ exact-two g c =
       valued = c.put_field.ensures.valued disk ((over-one g c).backed told) ((over-one g c).valued told);
       find = c.put_field.ensures.find;
       changes = c.put_field.ensures.within.changes;
-    })
-
-pub returns-clause-sound : goal.returns-clause-sound
-returns-clause-sound g c =
-    let m = c.args.self.now in
-    let old : meant (core_of c.put_field.new.p).entries [] 0 c.args.old ≡ meant (core_of m.parts).entries [] 0 c.args.old = meant-names (core_of m.parts).entries (core_of c.put_field.new.p).entries [] 0 c.args.old
-    (λ is. (c.put_field.ensures.within.live c.args.old (recount-used (core_of m.parts) (core_of c.raise_word.new.p) c.args.old c.raise_word.ensures.recount ∙ c.requires.used is)).1 ∙ recount-name (core_of m.parts) (core_of c.raise_word.new.p) c.args.old c.raise_word.ensures.recount) in
-    record {
-      kept = recount-kept c.put_field.new.p c.lower_word.new.p m.regs m.pinned m.ledger (kept-two g c) c.lower_word.ensures.parts c.lower_word.ensures.recount c.lower_word.ensures.segment;
-      over = recount-over g.H.Host m.disk.host.now m.disk.rest (core_of c.put_field.new.p) (core_of c.lower_word.new.p) m.ledger (over-two g c) c.lower_word.ensures.recount;
-      exact = exact-lowered g.H.Host c.put_field.new.p c.lower_word.new.p m.disk.host.now m.disk.rest m.ledger.next c.args.old
-          (subst (λ (u : Value). IsExact g.H.Host c.put_field.new.p m.disk.host.now m.disk.rest m.ledger.next (u ∷ [])) (sym old) (exact-two g c))
-          (λ is. (c.put_field.ensures.within.live c.args.old (recount-used (core_of m.parts) (core_of c.raise_word.new.p) c.args.old c.raise_word.ensures.recount ∙ c.requires.used is)).0)
-          c.lower_word.ensures.lowered c.lower_word.ensures.same;
     }
+
+exact-two : (g : given.Over) (c : goal.After-note_gone g) → IsExact g.H.Host c.put_field.new.p c.args.self.now.disk.host.now c.args.self.now.disk.rest c.args.self.now.ledger.next (meant (core_of c.args.self.now.parts).entries [] 0 c.args.old ∷ [])
+exact-two g c =
+    let m = c.args.self.now in
+    let q = c.raise_word.new.p in
+    exact-exchanged g.H.Host q c.put_field.new.p m.disk.host.now m.disk.rest m.ledger.next c.args.s.0 c.args.at.place c.args.i (meant (core_of m.parts).entries [] 0 c.args.old) (meant (core_of q).entries [] 0 (slice_index_or m.regs c.index.result 0)) (exact-one g c) (exchanged-of g c)
 
 pub returns-clause-outside : goal.returns-clause-outside
 unfolding loom_outside
@@ -150,6 +148,40 @@ returns-clause-stored g c =
     there
     (ap (meant (core_of q).entries [] 0) (sym (word-is m.regs c.index.result c.args.from c.index.ensures.same c.index.ensures.within c.requires.sound.kept.many)))
     (c.put_field.ensures.held disk (object_at (core_of q) disk ((core_of q).entries s) p) ((over-one g c).backed told) there)))
+
+-- the entry of the word that went is as it was
+alive : (g : given.Over) (c : goal.After-note_gone g) → is_short c.args.old ≡ true → (is_used ((core_of c.lower_word.new.p).entries c.args.old).state ≡ true) × (((core_of c.lower_word.new.p).entries c.args.old).name ≡ ((core_of c.args.self.now.parts).entries c.args.old).name)
+alive g c is =
+    let x = core_of c.args.self.now.parts in
+    let a = core_of c.raise_word.new.p in
+    let b = core_of c.put_field.new.p in
+    let d = core_of c.lower_word.new.p in
+    let two = c.put_field.ensures.within.live c.args.old (recount-used x a c.args.old c.raise_word.ensures.recount ∙ c.requires.used is) in (
+      recount-used b d c.args.old c.lower_word.ensures.recount ∙ two.0,
+      recount-name b d c.args.old c.lower_word.ensures.recount ∙ two.1 ∙ recount-name x a c.args.old c.raise_word.ensures.recount,
+    )
+
+pub returns-clause-sound : goal.returns-clause-sound
+returns-clause-sound g c =
+    let m = c.args.self.now in
+    let old : meant (core_of c.put_field.new.p).entries [] 0 c.args.old ≡ meant (core_of m.parts).entries [] 0 c.args.old = meant-names (core_of m.parts).entries (core_of c.put_field.new.p).entries [] 0 c.args.old
+    (λ is. (c.put_field.ensures.within.live c.args.old (recount-used (core_of m.parts) (core_of c.raise_word.new.p) c.args.old c.raise_word.ensures.recount ∙ c.requires.used is)).1 ∙ recount-name (core_of m.parts) (core_of c.raise_word.new.p) c.args.old c.raise_word.ensures.recount) in
+    let kept_ = recount-kept c.put_field.new.p c.lower_word.new.p m.regs m.pinned m.ledger (kept-two g c) c.lower_word.ensures.parts c.lower_word.ensures.recount c.lower_word.ensures.segment in
+    let exact_ = exact-lowered g.H.Host c.put_field.new.p c.lower_word.new.p m.disk.host.now m.disk.rest m.ledger.next c.args.old
+    (subst (λ (u : Value). IsExact g.H.Host c.put_field.new.p m.disk.host.now m.disk.rest m.ledger.next (u ∷ [])) (sym old) (exact-two g c))
+    (λ is. (c.put_field.ensures.within.live c.args.old (recount-used (core_of m.parts) (core_of c.raise_word.new.p) c.args.old c.raise_word.ensures.recount ∙ c.requires.used is)).0)
+    c.lower_word.ensures.lowered c.lower_word.ensures.same in
+    record {
+      kept = kept_;
+      over = recount-over g.H.Host m.disk.host.now m.disk.rest (core_of c.put_field.new.p) (core_of c.lower_word.new.p) m.ledger (over-two g c) c.lower_word.ensures.recount;
+      exact = exact_;
+      soon = c.requires.sound.soon;
+      thin = thin-exchanged g.H.Host m c.raise_word.new.p c.put_field.new.p c.lower_word.new.p c.note_gone.new.thinned c.args.s.0 c.args.at.place c.args.i c.args.old (meant (core_of m.parts).entries [] 0 c.args.old) (meant (core_of c.raise_word.new.p).entries [] 0 (slice_index_or m.regs c.index.result 0)) c.requires.sound kept_ exact_
+          (ap (λ (t : Told). t.regs) (returns-clause-stored g c).same) (ap (λ (t : Told). t.slots) (returns-clause-stored g c).same)
+          c.raise_word.ensures.parts.core (λ told. (c.raise_word.ensures.recount.stays (disk_of g.H.Host m.disk.host.now m.disk.rest) (c.requires.sound.over.backed told)).held)
+          (exchanged-of g c) (λ told. (c.lower_word.ensures.recount.stays (disk_of g.H.Host m.disk.host.now m.disk.rest) ((over-two g c).backed told)).held) refl
+          (λ is. (alive g c is)) (λ on. c.note_gone.ensures.was on) (λ on. c.note_gone.ensures.named on);
+    }
 
 pub returns-clause-resting : goal.returns-clause-resting
 returns-clause-resting g c =

@@ -13,6 +13,7 @@ use Rattle.loom_memory.proofs.LastLaws.{field-last, field-ready}
 use Rattle.loom_memory.proofs.LoadLaws.{field-told}
 use Rattle.loom_memory.proofs.GentleLaws.{here-sparing, steady-sparing, not-at-hand, leaf-no-hand, here-searched, peek-searched, steady-peek}
 use Rattle.loom_memory.proofs.OneLaws.{brings-none}
+use Rattle.loom_memory.proofs.ReachLaws.{done-here}
 use Rattle.loom_memory.proofs.memory.LoomMemory.field.Goals as goal
 use Rattle.loom_memory.proofs.memory.LoomMemory.field.Given as given
 
@@ -67,3 +68,6 @@ returns-in-Some-word_in_body-clause-searched g c =
 
 pub returns-in-Some-word_in_body-clause-brings : goal.returns-in-Some-word_in_body-clause-brings
 returns-in-Some-word_in_body-clause-brings g c = brings-none c.args.self.now c.put_word.new.self _ c.put_word.ensures.steady.idle.fetches
+
+pub returns-in-Some-word_in_body-clause-gone : goal.returns-in-Some-word_in_body-clause-gone
+returns-in-Some-word_in_body-clause-gone g c = done-here {T = Unit {0}} (Ok tt) g.H.Host c.args.self.now c.put_word.new.self (name_at ((loom_told g.H.Host c.args.self.now).regs c.args.of)) (Field c.args.to c.args.of c.args.i) c.in-Some.ensures.there

@@ -1,9 +1,12 @@
-use Rattle.std.proofs.Common.{refl}
+use Rattle.std.proofs.Common.{refl, arith}
+use Rattle.leaf_lambda.specs.Parts.{core_of}
 use Rattle.loom_memory.specs.Memory.{loom_told}
 use Rattle.loom_memory.proofs.BringLaws.{quiet-same}
 use Rattle.loom_memory.proofs.MakingLaws.{quiet-thinned}
 use Rattle.loom_memory.proofs.MindLaws.{minds-refl}
 use Rattle.loom_memory.proofs.SettleLaws.{bodies-same}
+use Rattle.loom_memory.proofs.LambdaLaws.{still-calm}
+use Rattle.loom_memory.proofs.FirstRoomLaws.{freed-if}
 use Rattle.loom_memory.proofs.SparedLaws.{err-each, ok-never}
 use Rattle.loom_memory.proofs.memory.LoomMemory.free_first.Goals as goal
 
@@ -34,3 +37,20 @@ returns-clause-roomy g c = ok-never _ c.thin.result (λ room. c.has_room.ensures
 
 pub returns-clause-sure : goal.returns-clause-sure
 returns-clause-sure g c = err-each c.thin.result (λ room. c.has_room.ensures.lacks c.if-has_room.false room)
+
+-- ---- nothing dead is left
+
+pub returns-then-has_room-clause-gone : goal.returns-then-has_room-clause-gone
+returns-then-has_room-clause-gone g c = λ lacks. absurd (lacks (c.has_room.ensures.has c.if-has_room.true))
+
+pub returns-then-self-clause-gone : goal.returns-then-self-clause-gone
+returns-then-self-clause-gone g c = λ lacks due. absurd (let early = c.if-self.true in omega (arith, early, due))
+
+pub returns-clause-gone : goal.returns-clause-gone
+returns-clause-gone g c = freed-if c.thin.result g.H.Host c.args.self.now c.thin.new.self c.args.words c.args.entries c.thin.ensures.again
+
+pub returns-then-has_room-clause-calm : goal.returns-then-has_room-clause-calm
+returns-then-has_room-clause-calm g c = still-calm c.args.self.now.pinned (core_of c.args.self.now.parts)
+
+pub returns-then-self-clause-calm : goal.returns-then-self-clause-calm
+returns-then-self-clause-calm g c = still-calm c.args.self.now.pinned (core_of c.args.self.now.parts)

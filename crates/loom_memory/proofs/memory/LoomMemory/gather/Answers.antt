@@ -19,6 +19,7 @@ use Rattle.loom_memory.proofs.MindLaws.{minds-core, minds-refl}
 use Rattle.loom_memory.specs.Residents.{fetched}
 use Rattle.loom_memory.proofs.memory.LoomMemory.gather.Goals as goal
 use Rattle.loom_memory.proofs.memory.LoomMemory.gather.Goals.{After-compact}
+use Rattle.loom_memory.proofs.DeadLaws.{thin-quiet}
 use Rattle.loom_memory.proofs.memory.LoomMemory.gather.Given as given
 
 pub returns-then-is_together-clause-quiet : goal.returns-then-is_together-clause-quiet
@@ -63,7 +64,9 @@ returns-clause-sound g c =
         based = over.based;
         valued = λ told. subst (λ (d : Disk). IsValued d) (sym (c.compact.ensures.stays (disk_of g.H.Host m.disk.host.now m.disk.rest) (over.backed told)).held) (over.valued told);
       };
+      soon = c.requires.sound.soon;
       exact = exact-counts g.H.Host m.parts c.compact.new.p m.disk.host.now m.disk.rest m.ledger.next c.requires.sound.exact c.compact.ensures.parts c.compact.ensures.stays c.compact.ensures.counts;
+      thin = thin-quiet g.H.Host c.args.self.now _ c.requires.sound.thin (λ on. on) (returns-clause-quiet g c);
     }
 
 pub returns-clause-room : goal.returns-clause-room

@@ -8,10 +8,11 @@ use Rattle.core_view.proofs.Core.{placed-used}
 use Rattle.disk_objects.specs.Function.{disk_of}
 use Rattle.leaf_lambda.specs.Parts.{core_of}
 use Rattle.loom_memory.specs.Memory.{loom_told}
-use Rattle.loom_memory.proofs.AccessLaws.{quiet-ready, refused-is}
+use Rattle.loom_memory.proofs.AccessLaws.{refused-is}
+use Rattle.loom_memory.proofs.MakingLaws.{thinned-ready}
 use Rattle.loom_memory.proofs.FieldLaws.{told-tells}
-use Rattle.loom_memory.proofs.BodyLaws.{method-literals, part-told, part-here, part-still}
-use Rattle.loom_memory.proofs.ReadLaws.{read-answered}
+use Rattle.loom_memory.proofs.BodyLaws.{method-literals, part-here}
+use Rattle.loom_memory.proofs.ReachLaws.{amiss-freed, part-first, part-left, read-freed}
 use Rattle.long_names.specs.State.{name_at}
 use Rattle.loom_memory.proofs.GentleLaws.{amiss-sparing, sparing-ok, sparing-err}
 use Rattle.loom_memory.proofs.DamageLaws.{amiss-damage}
@@ -40,7 +41,7 @@ returns-in-Some-clause-access g c =
     let n = c.load.new.self in
     let there = c.in-Ok.ensures.loaded in
     let o = object_at (core_of n.parts) (disk_of g.H.Host n.disk.host.now n.disk.rest) ((core_of n.parts).entries c.in-Ok.s.0) there.at in
-    subst (λ (z : ℤ). Accessed {A = ℤ} t (loom_told g.H.Host n) (Header c.args.of) OfSigned (Ok z)) (sym (number-of g c)) (read-answered t (loom_told g.H.Host n) (Header c.args.of) OfSigned c.in-Some.header refl c.in-Ok.ensures.quiet
+    subst (λ (z : ℤ). Accessed {A = ℤ} t (loom_told g.H.Host n) (Header c.args.of) OfSigned (Ok z)) (sym (number-of g c)) (read-freed t (loom_told g.H.Host n) (Header c.args.of) c.args.of OfSigned c.in-Some.header refl refl refl c.in-Ok.ensures.thinned
     (λ told. ap (λ (x : Option ℤ). answered OfSigned x) (part-here (loom_told g.H.Host n) c.args.of o header_of (Some c.in-Some.header) (there.object (told-tells g.H.Host c.args.self.now told))
     (sym (sym c.in-Some.is ∙ c.header_at.ensures.header (disk_of g.H.Host n.disk.host.now n.disk.rest) there.at there.place))))
     (c.in-Ok.ensures.core (Header c.args.of) refl refl))
@@ -52,7 +53,7 @@ returns-in-Some-clause-literals g c = λ told.
     let there = c.in-Ok.ensures.loaded in
     let o = object_at (core_of n.parts) (disk_of g.H.Host n.disk.host.now n.disk.rest) ((core_of n.parts).entries c.in-Ok.s.0) there.at in
     let e = (core_of n.parts).entries c.in-Ok.s.0 in
-    part-told t (loom_told g.H.Host n) c.args.of o (λ (b : Body). Some (length (fields_of b))) (Some (literal_count c.in-Some.header)) c.in-Ok.ensures.quiet (there.object (told-tells g.H.Host c.args.self.now told))
+    part-first t (loom_told g.H.Host n) c.args.of o (λ (b : Body). Some (length (fields_of b))) (Some (literal_count c.in-Some.header)) c.in-Ok.ensures.thinned told (there.object (told-tells g.H.Host c.args.self.now told))
     (ap Some (method-literals (core_of n.parts).entries (fields_there (disk_of g.H.Host n.disk.host.now n.disk.rest e.name)) ((core_of n.parts).chunks there.at).words e.kind e.len c.in-Some.header (c.in-Ok.ensures.sound.kept.parts.core.long c.in-Ok.s.0 there.at there.place)
     (sym (sym c.in-Some.is ∙ c.header_at.ensures.header (disk_of g.H.Host n.disk.host.now n.disk.rest) there.at there.place)))) ∙ ap (λ (z : ℤ). Some (literal_count z)) (sym (number-of g c))
 
@@ -63,14 +64,14 @@ untold g c told =
     let there = c.in-Ok.ensures.loaded in
     let o = object_at (core_of n.parts) (disk_of g.H.Host n.disk.host.now n.disk.rest) ((core_of n.parts).entries c.in-Ok.s.0) there.at in
     let can = c.requires.may.heap told in
-    let there_ : Some can.0 ≡ None = sym (part-still t (loom_told g.H.Host n) c.args.of o header_of (Some can.0) c.in-Ok.ensures.quiet (there.object (told-tells g.H.Host c.args.self.now told)) can.1)
+    let there_ : Some can.0 ≡ None = sym (part-left t (loom_told g.H.Host n) c.args.of o header_of (Some can.0) c.in-Ok.ensures.thinned told (there.object (told-tells g.H.Host c.args.self.now told)) can.1)
     ∙ sym (c.header_at.ensures.header (disk_of g.H.Host n.disk.host.now n.disk.rest) there.at there.place) ∙ c.in-None.is in cc
 
 pub returns-in-None-clause-access : goal.returns-in-None-clause-access
 returns-in-None-clause-access g c =
     let t = loom_told g.H.Host c.args.self.now in
     refused-is t (loom_told g.H.Host c.amiss.new.self) (Header c.args.of) OfSigned c.amiss.result
-    (c.amiss.ensures.err t (Header c.args.of) c.in-Ok.ensures.quiet c.requires.fit.ready tt refl (untold g c))
+    (amiss-freed t (loom_told g.H.Host c.load.new.self) (loom_told g.H.Host c.amiss.new.self) (Header c.args.of) c.args.of c.amiss.result refl refl tt c.in-Ok.ensures.thinned c.requires.fit.ready c.amiss.ensures.err (untold g c))
 
 pub returns-in-Err-clause-access : goal.returns-in-Err-clause-access
 returns-in-Err-clause-access g c = refused-is (loom_told g.H.Host c.args.self.now) (loom_told g.H.Host c.load.new.self) (Header c.args.of) OfSigned c.in-Err.f (c.in-Err.ensures.err (Header c.args.of) refl refl tt)
@@ -78,7 +79,7 @@ returns-in-Err-clause-access g c = refused-is (loom_told g.H.Host c.args.self.no
 pub returns-in-Some-clause-fit : goal.returns-in-Some-clause-fit
 returns-in-Some-clause-fit g c = record {
   sound = c.in-Ok.ensures.sound;
-  ready = quiet-ready (loom_told g.H.Host c.args.self.now) (loom_told g.H.Host c.load.new.self) c.in-Ok.ensures.quiet c.requires.fit.ready;
+  ready = thinned-ready (loom_told g.H.Host c.args.self.now) (loom_told g.H.Host c.load.new.self) c.in-Ok.ensures.thinned c.requires.fit.ready;
   lender = c.in-Ok.ensures.lender;
   outside = c.in-Ok.ensures.outside;
 }
@@ -93,7 +94,7 @@ pub returns-in-Err-clause-own : goal.returns-in-Err-clause-own
 returns-in-Err-clause-own g c = sparing-err g.H.Host c.args.self.now c.load.new.self (name_at ((loom_told g.H.Host c.args.self.now).regs c.args.of)) c.in-Err.f c.in-Err.ensures.own
 
 pub returns-in-None-clause-damage : goal.returns-in-None-clause-damage
-returns-in-None-clause-damage g c = λ room. amiss-damage g.H.Host c.args.self.now c.load.new.self c.args.of c.in-Ok.s.0 c.amiss.new.self.disk.rest c.amiss.result c.in-Ok.ensures.sound c.in-Ok.ensures.quiet c.requires.may.names c.in-Ok.ensures.word c.amiss.ensures.is
+returns-in-None-clause-damage g c = λ room. amiss-damage g.H.Host c.args.self.now c.load.new.self c.args.of c.in-Ok.s.0 c.amiss.new.self.disk.rest c.amiss.result c.in-Ok.ensures.sound c.in-Ok.ensures.thinned c.requires.may.names c.in-Ok.ensures.word c.amiss.ensures.is
 
 pub returns-in-None-clause-brings : goal.returns-in-None-clause-brings
 returns-in-None-clause-brings g c = brings-then c.args.self.now c.load.new.self c.amiss.new.self _ c.load.ensures.brings c.amiss.ensures.brings

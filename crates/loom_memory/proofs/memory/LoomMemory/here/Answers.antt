@@ -17,16 +17,13 @@ use Rattle.loom_memory.proofs.GentleLaws.{entry-at, resident-at, bounded-at}
 use Rattle.loom_memory.proofs.memory.LoomMemory.here.Goals as goal
 use Rattle.loom_memory.proofs.memory.LoomMemory.here.Given as given
 
-pub entry-requires-clause-within : goal.entry-requires-clause-within
+pub used_entry-e-requires : goal.used_entry-e-requires
 unfolding core_of
-entry-requires-clause-within g c = c.requires.sound.kept.parts.core.within c.word_of-w.result (entry-at g.H.Host c.args.self.now c.args.of c.word_of-w.result c.requires.sound c.requires.name c.word_of-w.ensures.word).used
-
-pub entry-requires-clause-short : goal.entry-requires-clause-short
-entry-requires-clause-short g c = c.requires.sound.kept.parts.core.short c.word_of-w.result (entry-at g.H.Host c.args.self.now c.args.of c.word_of-w.result c.requires.sound c.requires.name c.word_of-w.ensures.word).used
+used_entry-e-requires g c = (entry-at g.H.Host c.args.self.now c.args.of c.word_of-w.result c.requires.sound c.requires.name c.word_of-w.ensures.word).used
 
 there-of : (g : given.Over) (c : goal.After-chunks_never_overlap g) → (p : ℕ) × (place_of ((core_of c.args.self.now.parts).entries c.word_of-w.result).state ≡ Some p)
 unfolding core_of
-there-of g c = let there = some-of c.place.result c.is_some.result c.is_some.ensures c.if-is_some.true in (there.0, ap (λ (e : Entry). place_of e.state) (sym c.entry.ensures) ∙ sym c.place.ensures ∙ there.1)
+there-of g c = let there = some-of c.place.result c.is_some.result c.is_some.ensures c.if-is_some.true in (there.0, ap (λ (e : Entry). place_of e.state) (sym c.used_entry-e.ensures) ∙ sym c.place.ensures ∙ there.1)
 
 register-is : (g : given.Over) (c : goal.After-chunks_never_overlap g) → (loom_told g.H.Host c.args.self.now).regs c.args.of ≡ meant (core_of c.args.self.now.parts).entries [] 0 c.word_of-w.result
 unfolding loom_told
@@ -64,10 +61,10 @@ returns-then-is_some-clause-there g c = resident-at g.H.Host c.args.self.now c.a
 
 pub returns-clause-leaf : goal.returns-clause-leaf
 unfolding core_of
-returns-clause-leaf g c = ap (λ (w : ℕ). place_of ((core_of c.args.self.now.parts).entries w).state) (sym c.word_of-w.ensures.word) ∙ ap (λ (e : Entry). place_of e.state) (sym c.entry.ensures) ∙ sym c.place.ensures ∙ none-of c.place.result c.is_some.result c.is_some.ensures c.if-is_some.false
+returns-clause-leaf g c = ap (λ (w : ℕ). place_of ((core_of c.args.self.now.parts).entries w).state) (sym c.word_of-w.ensures.word) ∙ ap (λ (e : Entry). place_of e.state) (sym c.used_entry-e.ensures) ∙ sym c.place.ensures ∙ none-of c.place.result c.is_some.result c.is_some.ensures c.if-is_some.false
 
 pub returns-clause-away : goal.returns-clause-away
 unfolding core_of
 returns-clause-away g c =
     resident-at g.H.Host c.args.self.now c.args.of c.word_of-w.result c.requires.sound c.requires.name c.word_of-w.ensures.word
-    ∙ ap (λ (x : Option ℕ). is_some x) (ap (λ (e : Entry). place_of e.state) (sym c.entry.ensures) ∙ sym c.place.ensures ∙ none-of c.place.result c.is_some.result c.is_some.ensures c.if-is_some.false)
+    ∙ ap (λ (x : Option ℕ). is_some x) (ap (λ (e : Entry). place_of e.state) (sym c.used_entry-e.ensures) ∙ sym c.place.ensures ∙ none-of c.place.result c.is_some.result c.is_some.ensures c.if-is_some.false)

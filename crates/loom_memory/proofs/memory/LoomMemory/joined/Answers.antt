@@ -5,6 +5,7 @@ use Rattle.leaf_lambda.specs.Parts.{core_of}
 use Rattle.loom_memory.specs.Memory.{loom_told}
 use Rattle.loom_memory.specs.Residents.{is_resident, fetched}
 use Rattle.loom_memory.proofs.FirstLaws.{empty-bodies, empty-marks, first-exact, first-heap, first-kept, first-over, first-ready, first-rows, first-slot, first-value}
+use Rattle.loom_memory.proofs.DeadLaws.{thin-off}
 use Rattle.loom_memory.proofs.memory.LoomMemory.joined.Goals as goal
 
 pub returns-clause-first : goal.returns-clause-first
@@ -28,7 +29,9 @@ pub returns-clause-sound : goal.returns-clause-sound
 returns-clause-sound g c = record {
   kept = first-kept c.args.tables.parts _ c.requires.empty refl;
   over = first-over g.H.Host c.args.tables.parts c.args.disk.host.now c.args.disk.rest _ c.requires.loaded c.requires.empty (ap Some c.len-held.ensures.value) refl c.len-held.ensures.value (let value = c.len-held.ensures.value in let most = c.len-held.ensures.most in omega (arith, value, most)) c.requires.even;
+  soon = omega arith;
   exact = first-exact g.H.Host c.args.tables.parts c.args.core c.args.entries c.args.disk.host.now c.args.disk.rest c.args.next c.requires.loaded c.requires.empty;
+  thin = thin-off g.H.Host _ refl;
 }
 
 pub returns-clause-ready : goal.returns-clause-ready

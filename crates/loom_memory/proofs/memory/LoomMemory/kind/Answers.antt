@@ -10,32 +10,30 @@ use Rattle.core_view.proofs.Core.{placed-used}
 use Rattle.disk_objects.specs.Function.{disk_of}
 use Rattle.leaf_lambda.specs.Parts.{core_of}
 use Rattle.loom_memory.specs.Memory.{loom_told}
-use Rattle.loom_memory.proofs.AccessLaws.{quiet-ready, refused-is}
+use Rattle.loom_memory.proofs.AccessLaws.{refused-is}
+use Rattle.loom_memory.proofs.MakingLaws.{thinned-ready}
 use Rattle.loom_memory.proofs.FieldLaws.{told-tells}
 use Rattle.loom_memory.proofs.LoadLaws.{kind-is}
-use Rattle.loom_memory.proofs.ReadLaws.{read-answered}
+use Rattle.loom_memory.proofs.ReachLaws.{read-freed}
 use Rattle.loom_memory.proofs.GentleLaws.{sparing-ok, sparing-err}
 use Rattle.long_names.specs.State.{name_at}
 use Rattle.loom_memory.proofs.memory.LoomMemory.kind.Goals as goal
 use Rattle.loom_memory.proofs.memory.LoomMemory.kind.Given as given
 
-pub entry-requires-clause-within : goal.entry-requires-clause-within
+pub used_entry-requires : goal.used_entry-requires
 unfolding core_of
-entry-requires-clause-within g c = c.in-Ok.ensures.sound.kept.parts.core.within c.in-Ok.s.0 (placed-used ((core_of c.load.new.self.parts).entries c.in-Ok.s.0).state c.in-Ok.ensures.loaded.at c.in-Ok.ensures.loaded.place)
+used_entry-requires g c = placed-used ((core_of c.load.new.self.parts).entries c.in-Ok.s.0).state c.in-Ok.ensures.loaded.at c.in-Ok.ensures.loaded.place
 
-pub entry-requires-clause-short : goal.entry-requires-clause-short
-entry-requires-clause-short g c = c.in-Ok.ensures.sound.kept.parts.core.short c.in-Ok.s.0 (placed-used ((core_of c.load.new.self.parts).entries c.in-Ok.s.0).state c.in-Ok.ensures.loaded.at c.in-Ok.ensures.loaded.place)
-
-kind-same : (g : given.Over) (c : goal.After-entry g) → ((core_of c.load.new.self.parts).entries c.in-Ok.s.0).kind ≡ c.entry.result.kind
+kind-same : (g : given.Over) (c : goal.After-used_entry g) → ((core_of c.load.new.self.parts).entries c.in-Ok.s.0).kind ≡ c.used_entry.result.kind
 unfolding core_of
-kind-same g c = ap (λ (e : Entry). e.kind) (sym c.entry.ensures)
+kind-same g c = ap (λ (e : Entry). e.kind) (sym c.used_entry.ensures)
 
 pub returns-in-Ok-clause-access : goal.returns-in-Ok-clause-access
 returns-in-Ok-clause-access g c =
     let n = c.load.new.self in
     let e = (core_of n.parts).entries c.in-Ok.s.0 in
     let there = c.in-Ok.ensures.loaded in
-    read-answered (loom_told g.H.Host c.args.self.now) (loom_told g.H.Host n) (KindOf c.args.of) OfKind c.entry.result.kind refl c.in-Ok.ensures.quiet
+    read-freed (loom_told g.H.Host c.args.self.now) (loom_told g.H.Host n) (KindOf c.args.of) c.args.of OfKind c.used_entry.result.kind refl refl refl c.in-Ok.ensures.thinned
     (λ told. ap (λ (o : Option Object). option_and_then (λ k. Some (OfKind k)) (option_and_then (λ (o : Object). Some (kind_of o.body)) o)) (there.object (told-tells g.H.Host c.args.self.now told))
     ∙ ap (λ (k : Kind). Some (OfKind k)) (kind-is (core_of n.parts).entries (fields_there (disk_of g.H.Host n.disk.host.now n.disk.rest e.name)) ((core_of n.parts).chunks there.at).words e.kind e.len ∙ kind-same g c))
     (c.in-Ok.ensures.core (KindOf c.args.of) refl refl)
@@ -46,7 +44,7 @@ returns-in-Err-clause-access g c = refused-is (loom_told g.H.Host c.args.self.no
 pub returns-in-Ok-clause-fit : goal.returns-in-Ok-clause-fit
 returns-in-Ok-clause-fit g c = record {
   sound = c.in-Ok.ensures.sound;
-  ready = quiet-ready (loom_told g.H.Host c.args.self.now) (loom_told g.H.Host c.load.new.self) c.in-Ok.ensures.quiet c.requires.fit.ready;
+  ready = thinned-ready (loom_told g.H.Host c.args.self.now) (loom_told g.H.Host c.load.new.self) c.in-Ok.ensures.thinned c.requires.fit.ready;
   lender = c.in-Ok.ensures.lender;
   outside = c.in-Ok.ensures.outside;
 }

@@ -9,32 +9,30 @@ use Rattle.core_view.proofs.Core.{placed-used}
 use Rattle.disk_objects.specs.Function.{disk_of}
 use Rattle.leaf_lambda.specs.Parts.{core_of}
 use Rattle.loom_memory.specs.Memory.{loom_told}
-use Rattle.loom_memory.proofs.AccessLaws.{quiet-ready, refused-is}
+use Rattle.loom_memory.proofs.AccessLaws.{refused-is}
+use Rattle.loom_memory.proofs.MakingLaws.{thinned-ready}
 use Rattle.loom_memory.proofs.FieldLaws.{told-tells}
 use Rattle.loom_memory.proofs.BodyLaws.{len-is, most-small}
-use Rattle.loom_memory.proofs.ReadLaws.{read-answered}
+use Rattle.loom_memory.proofs.ReachLaws.{read-freed}
 use Rattle.loom_memory.proofs.GentleLaws.{sparing-ok, sparing-err}
 use Rattle.long_names.specs.State.{name_at}
 use Rattle.loom_memory.proofs.memory.LoomMemory.len.Goals as goal
 use Rattle.loom_memory.proofs.memory.LoomMemory.len.Given as given
 
-pub entry-requires-clause-within : goal.entry-requires-clause-within
+pub used_entry-requires : goal.used_entry-requires
 unfolding core_of
-entry-requires-clause-within g c = c.in-Ok.ensures.sound.kept.parts.core.within c.in-Ok.s.0 (placed-used ((core_of c.load.new.self.parts).entries c.in-Ok.s.0).state c.in-Ok.ensures.loaded.at c.in-Ok.ensures.loaded.place)
+used_entry-requires g c = placed-used ((core_of c.load.new.self.parts).entries c.in-Ok.s.0).state c.in-Ok.ensures.loaded.at c.in-Ok.ensures.loaded.place
 
-pub entry-requires-clause-short : goal.entry-requires-clause-short
-entry-requires-clause-short g c = c.in-Ok.ensures.sound.kept.parts.core.short c.in-Ok.s.0 (placed-used ((core_of c.load.new.self.parts).entries c.in-Ok.s.0).state c.in-Ok.ensures.loaded.at c.in-Ok.ensures.loaded.place)
-
-len-same : (g : given.Over) (c : goal.After-entry g) → ((core_of c.load.new.self.parts).entries c.in-Ok.s.0).len ≡ c.entry.result.len
+len-same : (g : given.Over) (c : goal.After-used_entry g) → ((core_of c.load.new.self.parts).entries c.in-Ok.s.0).len ≡ c.used_entry.result.len
 unfolding core_of
-len-same g c = ap (λ (e : Entry). e.len) (sym c.entry.ensures)
+len-same g c = ap (λ (e : Entry). e.len) (sym c.used_entry.ensures)
 
 pub returns-in-Ok-clause-access : goal.returns-in-Ok-clause-access
 returns-in-Ok-clause-access g c =
     let n = c.load.new.self in
     let e = (core_of n.parts).entries c.in-Ok.s.0 in
     let there = c.in-Ok.ensures.loaded in
-    read-answered (loom_told g.H.Host c.args.self.now) (loom_told g.H.Host n) (Length c.args.of) OfNumber c.entry.result.len refl c.in-Ok.ensures.quiet
+    read-freed (loom_told g.H.Host c.args.self.now) (loom_told g.H.Host n) (Length c.args.of) c.args.of OfNumber c.used_entry.result.len refl refl refl c.in-Ok.ensures.thinned
     (λ told. ap (λ (o : Option Object). option_and_then (λ n. Some (OfNumber n)) (option_and_then (λ (o : Object). Some (len_of o.body)) o)) (there.object (told-tells g.H.Host c.args.self.now told))
     ∙ ap (λ (n : ℕ). Some (OfNumber n)) (len-is (core_of n.parts).entries (fields_there (disk_of g.H.Host n.disk.host.now n.disk.rest e.name)) ((core_of n.parts).chunks there.at).words e.kind e.len (c.in-Ok.ensures.sound.kept.parts.core.long c.in-Ok.s.0 there.at there.place) ∙ len-same g c))
     (c.in-Ok.ensures.core (Length c.args.of) refl refl)
@@ -48,7 +46,7 @@ returns-in-Err-clause-access g c = refused-is (loom_told g.H.Host c.args.self.no
 pub returns-in-Ok-clause-fit : goal.returns-in-Ok-clause-fit
 returns-in-Ok-clause-fit g c = record {
   sound = c.in-Ok.ensures.sound;
-  ready = quiet-ready (loom_told g.H.Host c.args.self.now) (loom_told g.H.Host c.load.new.self) c.in-Ok.ensures.quiet c.requires.fit.ready;
+  ready = thinned-ready (loom_told g.H.Host c.args.self.now) (loom_told g.H.Host c.load.new.self) c.in-Ok.ensures.thinned c.requires.fit.ready;
   lender = c.in-Ok.ensures.lender;
   outside = c.in-Ok.ensures.outside;
 }

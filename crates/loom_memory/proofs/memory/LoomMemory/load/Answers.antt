@@ -2,13 +2,15 @@ use Rattle.std.proofs.Common.{◌≡◌, true, false, refl, sym, ◌∙◌}
 use Rattle.long_names.specs.State.{name_at}
 use Rattle.loom_memory.specs.Memory.{loom_told}
 use Rattle.loom_memory.proofs.BringLaws.{quiet-same}
+use Rattle.loom_memory.proofs.FirstRoomLaws.{gone-for}
+use Rattle.loom_memory.proofs.MakingLaws.{quiet-thinned}
 use Rattle.loom_memory.proofs.GentleLaws.{here-sparing, come-sparing}
 use Rattle.loom_memory.proofs.BelowLaws.{tested-where}
 use Rattle.loom_memory.proofs.OneLaws.{brings-none, brings-where}
 use Rattle.loom_memory.proofs.memory.LoomMemory.load.Goals as goal
 
-pub returns-in-Some-clause-quiet : goal.returns-in-Some-clause-quiet
-returns-in-Some-clause-quiet g c = quiet-same g.H.Host c.args.self.now
+pub returns-in-Some-clause-thinned : goal.returns-in-Some-clause-thinned
+returns-in-Some-clause-thinned g c = quiet-thinned (loom_told g.H.Host c.args.self.now) (loom_told g.H.Host c.args.self.now) (quiet-same g.H.Host c.args.self.now) c.requires.ready
 
 pub returns-in-Some-clause-own : goal.returns-in-Some-clause-own
 returns-in-Some-clause-own g c = here-sparing g.H.Host c.args.self.now (name_at ((loom_told g.H.Host c.args.self.now).regs c.args.of)) _ c.requires.sound c.in-Some.ensures.there c.in-Some.ensures.bounded
@@ -34,3 +36,9 @@ returns-in-Some-clause-brings g c = brings-none c.args.self.now c.args.self.now 
 
 pub returns-in-None-clause-brings : goal.returns-in-None-clause-brings
 returns-in-None-clause-brings g c = brings-where c.args.self.now c.load_with_room.new.self _ _ (λ any. c.in-None.ensures.away) c.load_with_room.ensures.brings
+
+pub returns-in-Some-clause-gone : goal.returns-in-Some-clause-gone
+returns-in-Some-clause-gone g c = λ told away. absurd (let both : true ≡ false = sym c.in-Some.ensures.there ∙ away in cc)
+
+pub returns-in-None-clause-gone : goal.returns-in-None-clause-gone
+returns-in-None-clause-gone g c = gone-for c.load_with_room.result _ _ _ _ c.in-None.ensures.leaf c.load_with_room.ensures.gone

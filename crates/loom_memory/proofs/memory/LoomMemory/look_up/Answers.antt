@@ -16,6 +16,7 @@ use Rattle.loom_memory.proofs.LambdaLaws.{still-calm, calm-read, fault-after}
 use Rattle.loom_memory.proofs.GentleLaws.{remains-refl}
 use Rattle.loom_memory.proofs.DamageLaws.{nowhere-damage, refusal-damage}
 use Rattle.loom_memory.specs.Residents.{fetched}
+use Rattle.loom_memory.proofs.DeadLaws.{thin-quiet}
 use Rattle.loom_memory.proofs.memory.LoomMemory.look_up.Goals as goal
 use Rattle.loom_memory.proofs.memory.LoomMemory.look_up.Given as given
 
@@ -100,7 +101,9 @@ returns-else-not-holds_below-clause-sound g c =
     record {
       kept = c.requires.sound.kept;
       over = read-over g.H.Host m.disk.host.now c.fetch.new.disk.host.now m.disk.rest c.fetch.new.disk.rest (core_of m.parts) m.ledger c.requires.sound.over c.in-Ok.ensures.stands c.in-Ok.ensures.rest c.in-Ok.ensures.same;
+      soon = c.requires.sound.soon;
       exact = exact-read g.H.Host m.parts m.disk.host.now c.fetch.new.disk.host.now m.disk.rest c.fetch.new.disk.rest m.ledger.next c.requires.sound.exact c.in-Ok.ensures.rest c.in-Ok.ensures.read;
+      thin = thin-quiet g.H.Host c.args.self.now _ c.requires.sound.thin (λ on. on) (returns-else-not-holds_below-clause-quiet g c);
     }
 
 pub returns-in-Err-clause-err : goal.returns-in-Err-clause-err

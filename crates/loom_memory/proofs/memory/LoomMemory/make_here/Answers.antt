@@ -1,11 +1,9 @@
 use Rattle.std.proofs.Common.{◌≡◌, ◌<◌, ◌∙◌, ℕ, ap, sym, subst, arith}
 use Rattle.loom_memory.specs.Memory.{loom_told}
 use Rattle.loom_memory.specs.New.{making_of}
-use Rattle.loom_memory.specs.Residents.{fetched}
 use Rattle.loom_memory.proofs.AccessLaws.{quiet-ready}
 use Rattle.loom_memory.proofs.AddLaws.{core-ok, core-there, making-words, unfit-new}
-use Rattle.loom_memory.proofs.GentleLaws.{fetched-same}
-use Rattle.loom_memory.proofs.MadeLaws.{core-any, core-lost, fetched-then, lost-core, made-rest}
+use Rattle.loom_memory.proofs.MadeLaws.{core-any, core-lost, lost-core, made-rest}
 use Rattle.loom_memory.proofs.MakingLaws.{after-quiet-as, full-as, made-if, quiet-thinned, refused-each, refused-if}
 use Rattle.disk_objects.specs.Disk.{disk_room}
 use Rattle.purger.specs.Purge.{HasRoom}
@@ -49,7 +47,7 @@ pub returns-in-Err-clause-err : goal.returns-in-Err-clause-err
 returns-in-Err-clause-err g c = λ low. c.in-Err.ensures.err c.args.to c.args.class (making_of c.args.kind c.args.len c.args.header) low
 
 pub returns-then-enough-clause-fetches : goal.returns-then-enough-clause-fetches
-returns-then-enough-clause-fetches g c = fetched-then c.put_object.result (fetched c.args.self.now) (fetched c.clear_new.new.self) (fetched c.put_object.new.self) (fetched-same c.args.self.now c.clear_new.new.self c.in-Ok.ensures.ledger) c.put_object.ensures.fetches
+returns-then-enough-clause-fetches g c = c.put_object.ensures.fetches ∙ c.clear_new.ensures.fetches
 
 pub returns-then-enough-clause-resting : goal.returns-then-enough-clause-resting
 returns-then-enough-clause-resting g c =
@@ -120,3 +118,6 @@ returns-in-Err-clause-sure g c = λ told room. let is = c.in-Err.ensures.sure (s
 
 pub returns-then-enough-clause-minds : goal.returns-then-enough-clause-minds
 returns-then-enough-clause-minds g c = minds-after c.put_object.result g.H.Host c.args.self.now c.clear_new.new.self c.put_object.new.self (λ k. (loom_told g.H.Host c.put_object.new.self).regs c.args.to ≡ Ref k) c.in-Ok.ensures.minds c.put_object.ensures.minds
+
+pub returns-else-enough-clause-fetches : goal.returns-else-enough-clause-fetches
+returns-else-enough-clause-fetches g c = c.full_new-in-Ok.ensures.fetches ∙ c.clear_new.ensures.fetches

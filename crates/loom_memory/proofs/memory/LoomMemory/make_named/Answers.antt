@@ -3,10 +3,9 @@ use Rattle.purger.specs.Purge.{HasRoom}
 use Rattle.long_names.specs.Access.{Make, Nothing}
 use Rattle.loom_memory.specs.Memory.{loom_told}
 use Rattle.loom_memory.specs.New.{making_of}
-use Rattle.loom_memory.specs.Residents.{fetched}
 use Rattle.loom_memory.proofs.AccessLaws.{refused-is}
 use Rattle.loom_memory.proofs.AddLaws.{making-words, next-low}
-use Rattle.loom_memory.proofs.MadeLaws.{asked-last, core-none, fetched-then, made-early, made-sparing}
+use Rattle.loom_memory.proofs.MadeLaws.{asked-last, core-none, made-early, made-sparing}
 use Rattle.loom_memory.proofs.MakingLaws.{made-last, made-now, thinned-ready}
 use Rattle.loom_memory.specs.Own.{IsAskedLast}
 use Rattle.loom_memory.proofs.SparedLaws.{spared-making, sure-making}
@@ -39,7 +38,7 @@ returns-in-Err-clause-access g c = refused-is (loom_told g.H.Host c.args.self.no
     (c.in-Err.ensures.err c.args.to c.args.class (making_of c.args.kind c.args.len c.args.header) (next-low g.H.Host c.args.self.now c.args.name c.requires.next c.requires.low))
 
 pub returns-in-Ok-clause-fetches : goal.returns-in-Ok-clause-fetches
-returns-in-Ok-clause-fetches g c = fetched-then c.make_here.result (fetched c.args.self.now) (fetched c.ask.new.self) (fetched c.make_here.new.self) c.in-Ok.ensures.fetches c.make_here.ensures.fetches
+returns-in-Ok-clause-fetches g c = c.make_here.ensures.fetches ∙ c.ask.ensures.fetches
 
 pub returns-in-Ok-clause-early : goal.returns-in-Ok-clause-early
 returns-in-Ok-clause-early g c = made-early c.make_here.result g.H.Host c.args.self.now c.ask.new.self c.make_here.new.self c.args.to c.args.class (making_of c.args.kind c.args.len c.args.header) _ (c.words_new.ensures.words ∙ making-words c.args.kind c.args.len c.args.header) c.in-Ok.ensures.early c.make_here.ensures.made

@@ -1,4 +1,4 @@
-use Rattle.std.proofs.Common.{◌≡◌, [], Some, refl, sym, ◌∙◌, ap}
+use Rattle.std.proofs.Common.{Ok, ◌≡◌, [], Some, refl, sym, ◌∙◌, ap}
 use Rattle.long_names.specs.declared.value.Value.TheVariants.{Ref}
 use Rattle.long_names.specs.Access.{Mark, Nothing}
 use Rattle.core_view.specs.Words.{meant}
@@ -6,8 +6,10 @@ use Rattle.core_view.proofs.Core.{placed-used}
 use Rattle.core_view.proofs.Words.{meant-short}
 use Rattle.leaf_lambda.specs.Parts.{core_of}
 use Rattle.loom_memory.specs.Memory.{loom_told}
-use Rattle.loom_memory.proofs.AccessLaws.{quiet-ready, refused-is}
-use Rattle.loom_memory.proofs.MarkingLaws.{mark-access, ready-mark, marked-name}
+use Rattle.loom_memory.proofs.AccessLaws.{refused-is}
+use Rattle.loom_memory.proofs.MakingLaws.{thinned-ready}
+use Rattle.loom_memory.proofs.MarkingLaws.{ready-mark, marked-name}
+use Rattle.loom_memory.proofs.ReachLaws.{done-by, mark-freed}
 use Rattle.long_names.specs.State.{name_at}
 use Rattle.loom_memory.proofs.GentleLaws.{changed-sparing, refused-change}
 use Rattle.object_memory.specs.Told.{Told, Cache}
@@ -29,17 +31,17 @@ note_mark-requires-clause-there g c = (c.in-Ok.ensures.loaded.at, c.in-Ok.ensure
 
 pub returns-in-Ok-clause-access : goal.returns-in-Ok-clause-access
 returns-in-Ok-clause-access g c =
-    mark-access (loom_told g.H.Host c.args.self.now) (loom_told g.H.Host c.load.new.self) (loom_told g.H.Host c.note_mark.new.self) c.args.r ((core_of c.load.new.self.parts).entries c.in-Ok.s.0).name c.in-Ok.ensures.quiet c.note_mark.ensures.marked (name-of g c)
+    mark-freed (loom_told g.H.Host c.args.self.now) (loom_told g.H.Host c.load.new.self) (loom_told g.H.Host c.note_mark.new.self) c.args.r ((core_of c.load.new.self.parts).entries c.in-Ok.s.0).name c.in-Ok.ensures.thinned c.note_mark.ensures.marked (name-of g c)
     (c.in-Ok.ensures.core (Mark c.args.r) refl refl)
 
 pub returns-in-Ok-clause-marked : goal.returns-in-Ok-clause-marked
-returns-in-Ok-clause-marked g c = marked-name (loom_told g.H.Host c.args.self.now) (loom_told g.H.Host c.load.new.self) (loom_told g.H.Host c.note_mark.new.self) c.args.r ((core_of c.load.new.self.parts).entries c.in-Ok.s.0).name c.in-Ok.ensures.quiet c.note_mark.ensures.marked (name-of g c)
+returns-in-Ok-clause-marked g c = marked-name (loom_told g.H.Host c.args.self.now) (loom_told g.H.Host c.load.new.self) (loom_told g.H.Host c.note_mark.new.self) c.args.r ((core_of c.load.new.self.parts).entries c.in-Ok.s.0).name c.in-Ok.ensures.thinned c.note_mark.ensures.marked (name-of g c)
 
 pub returns-in-Ok-clause-fit : goal.returns-in-Ok-clause-fit
 returns-in-Ok-clause-fit g c = record {
   sound = c.note_mark.ensures.sound;
   ready = ready-mark (loom_told g.H.Host c.load.new.self) (loom_told g.H.Host c.note_mark.new.self) c.args.r ((core_of c.load.new.self.parts).entries c.in-Ok.s.0).name c.note_mark.ensures.marked (name-of g c)
-      (quiet-ready (loom_told g.H.Host c.args.self.now) (loom_told g.H.Host c.load.new.self) c.in-Ok.ensures.quiet c.requires.fit.ready);
+      (thinned-ready (loom_told g.H.Host c.args.self.now) (loom_told g.H.Host c.load.new.self) c.in-Ok.ensures.thinned c.requires.fit.ready);
   lender = c.note_mark.ensures.lender ∙ c.in-Ok.ensures.lender;
   outside = c.note_mark.ensures.outside ∙ c.in-Ok.ensures.outside;
 }
@@ -57,7 +59,7 @@ pub returns-in-Ok-clause-cached : goal.returns-in-Ok-clause-cached
 returns-in-Ok-clause-cached g c = λ place.
     let m = c.args.self.now in
     let s = (core_of c.load.new.self.parts).entries c.in-Ok.s.0 in
-    let name : s.name ≡ name_at ((loom_told g.H.Host m).regs c.args.r) = ap name_at (sym (name-of g c)) ∙ ap (λ (z : Told). name_at (z.regs c.args.r)) c.in-Ok.ensures.quiet.same in
+    let name : s.name ≡ name_at ((loom_told g.H.Host m).regs c.args.r) = ap name_at (sym (name-of g c)) ∙ ap (λ (z : Told). name_at (z.regs c.args.r)) c.in-Ok.ensures.thinned.same in
     c.note_mark.ensures.cached ∙ ap (λ (z : Cache). with_mark z (Some s.name)) (c.in-Ok.ensures.own.cached place) ∙ ap (λ n. with_mark (loom_told g.H.Host m).cache (Some n)) name
 
 pub returns-in-Ok-clause-minds : goal.returns-in-Ok-clause-minds
@@ -66,9 +68,12 @@ returns-in-Ok-clause-minds g c =
     let u = c.load.new.self in
     let s = (core_of u.parts).entries c.in-Ok.s.0 in
     let n = name_at ((loom_told g.H.Host m).regs c.args.r) in
-    let name : s.name ≡ n = ap name_at (sym (name-of g c)) ∙ ap (λ (z : Told). name_at (z.regs c.args.r)) c.in-Ok.ensures.quiet.same in
+    let name : s.name ≡ n = ap name_at (sym (name-of g c)) ∙ ap (λ (z : Told). name_at (z.regs c.args.r)) c.in-Ok.ensures.thinned.same in
     minds-mark g.H.Host m u c.note_mark.new.self n c.in-Ok.ensures.own.minds c.in-Ok.ensures.sound.kept.parts.core c.note_mark.ensures.sound.kept.parts.core c.note_mark.ensures.resting.remains c.note_mark.ensures.none c.note_mark.ensures.resting.idle.fetches c.in-Ok.ensures.own.reached.there
     (c.note_mark.ensures.cached ∙ ap (λ k. with_mark (loom_told g.H.Host u).cache (Some k)) name)
 
 pub returns-in-Ok-clause-brings : goal.returns-in-Ok-clause-brings
 returns-in-Ok-clause-brings g c = brings-then c.args.self.now c.load.new.self c.note_mark.new.self _ c.load.ensures.brings c.note_mark.ensures.resting.idle.fetches
+
+pub returns-in-Ok-clause-gone : goal.returns-in-Ok-clause-gone
+returns-in-Ok-clause-gone g c = done-by {T = Unit {0}} (Ok tt) g.H.Host c.args.self.now c.load.new.self c.note_mark.new.self (name_at ((loom_told g.H.Host c.args.self.now).regs c.args.r)) (Mark c.args.r) c.in-Ok.ensures.thinned c.in-Ok.ensures.gone (λ told. ap (λ (t : Told). t.heap) c.note_mark.ensures.marked.same)

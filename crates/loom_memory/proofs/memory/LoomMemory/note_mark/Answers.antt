@@ -1,6 +1,6 @@
-use Rattle.std.proofs.Common.{◌≡◌, Some, true, refl, sym, ◌∙◌, ap, subst}
+use Rattle.std.proofs.Common.{◌+◌, ◌/◌, ◌≤◌, ◌≡◌, Some, true, refl, sym, ◌∙◌, ap, subst}
 use Rattle.object_table.specs.Entries.{is_used}
-use Rattle.object_memory.specs.Told.{Cache}
+use Rattle.object_memory.specs.Told.{Told, Cache}
 use Rattle.object_memory.specs.Contract.{IsKeptCache, no_names, with_mark}
 use Rattle.core_view.specs.Core.{Core}
 use Rattle.core_view.proofs.Core.{placed-used}
@@ -14,6 +14,7 @@ use Rattle.loom_memory.proofs.ExactLaws.{mark-exact}
 use Rattle.loom_memory.proofs.MarkingLaws.{IsCaching, mark-told, mark-kept, mark-over}
 use Rattle.loom_memory.specs.Residents.{fetched}
 use Rattle.loom_memory.proofs.GentleLaws.{mark-none, mark-remains}
+use Rattle.loom_memory.proofs.DeadLaws.{thin-of}
 use Rattle.loom_memory.proofs.memory.LoomMemory.note_mark.Goals as goal
 use Rattle.loom_memory.proofs.memory.LoomMemory.note_mark.Given as given
 
@@ -51,7 +52,9 @@ returns-clause-sound g c =
       kept = mark-kept m.parts c.set_mark.new.p m.regs m.pinned m.ledger (record k { mark = c.args.s.0 }) c.args.s.0 c.requires.there.0 c.requires.sound.kept c.set_mark.ensures.parts c.requires.there.1 c.set_mark.ensures.core c.set_mark.ensures.segment (caching g c)
           (subst (λ (y : Core). IsCached y (found k.rows) c.args.s.0) (sym c.set_mark.ensures.core) (marking-cached (core_of m.parts) (found k.rows) k.mark c.args.s.0 c.requires.sound.kept.parts.core (used-of g c) c.refresh.ensures.fresh c.refresh.ensures.cached));
       over = mark-over g.H.Host m.disk.host.now m.disk.rest (core_of m.parts) (core_of c.set_mark.new.p) m.ledger (record k { mark = c.args.s.0 }) c.args.s.0 c.requires.sound.kept.parts.core (used-of g c) c.set_mark.ensures.core (caching g c) c.requires.sound.over;
+      soon = subst (λ (k : Ledger). m.due ≤ k.next + k.entries / 8) (sym c.refresh.ensures.ledger) c.requires.sound.soon;
       exact = mark-exact g.H.Host m.parts c.set_mark.new.p m.disk.host.now m.disk.rest m.ledger (record k { mark = c.args.s.0 }) c.args.s.0 c.requires.sound.kept.parts.core (used-of g c) c.set_mark.ensures.parts c.set_mark.ensures.core (caching g c) c.requires.sound.exact;
+      thin = thin-of g.H.Host c.args.self.now _ c.requires.sound.thin (λ on. on) (ap (λ (t : Told). t.heap) (returns-clause-marked g c).same) (ap (λ (t : Told). t.regs) (returns-clause-marked g c).same) (ap (λ (t : Told). t.slots) (returns-clause-marked g c).same);
     }
 
 pub returns-clause-outside : goal.returns-clause-outside

@@ -1,13 +1,11 @@
 use Rattle.std.proofs.Common.{refl, ◌∙◌, ap}
 use Rattle.object_memory.specs.Told.{Told}
-use Rattle.object_table.specs.declared.entry.EntryState.{EntryState}
 use Rattle.object_table.specs.Entries.{is_used}
 use Rattle.leaf_lambda.specs.Parts.{core_of}
 use Rattle.purger.proofs.TouchLaws.{touch-state}
 use Rattle.loom_memory.specs.Memory.{loom_told, loom_outside}
 use Rattle.loom_memory.proofs.TouchLaws.{use-means, use-sound, use-steady, use-told}
 use Rattle.loom_memory.proofs.memory.LoomMemory.note_use.Goals as goal
-use Rattle.loom_memory.proofs.memory.LoomMemory.note_use.Given as given
 
 pub returns-clause-told : goal.returns-clause-told
 unfolding loom_told

@@ -2,7 +2,7 @@ use Rattle.std.proofs.Common.{◌≡◌, ℕ, List, sym, ◌∙◌, ap, arith}
 use Rattle.core_view.proofs.Core.{placed-used}
 use Rattle.leaf_lambda.specs.Parts.{core_of}
 use Rattle.loom_memory.specs.Memory.{loom_told, word_in}
-use Rattle.loom_memory.proofs.AccessLaws.{quiet-trans}
+use Rattle.loom_memory.proofs.MakingLaws.{quiet-thinned, thinned-ready, thinned-trans}
 use Rattle.long_names.specs.State.{name_at}
 use Rattle.loom_memory.proofs.GentleLaws.{load-searched, searched-change}
 use Rattle.loom_memory.proofs.KeepingLaws.{opened-keeps}
@@ -10,13 +10,18 @@ use Rattle.loom_memory.specs.Own.{IsBrought}
 use Rattle.loom_memory.proofs.MindLaws.{minds-then}
 use Rattle.loom_memory.proofs.GentleLaws.{entry-named}
 use Rattle.loom_memory.proofs.OneLaws.{brings-then}
+use Rattle.loom_memory.proofs.ReachLaws.{freed-away, freed-open}
 use Rattle.loom_memory.proofs.memory.LoomMemory.open_with_room.Goals as goal
 
 pub unmark-requires-clause-used : goal.unmark-requires-clause-used
 unmark-requires-clause-used g c = placed-used ((core_of c.load_with_room.new.self.parts).entries c.in-Ok.s.0).state c.in-Ok.ensures.loaded.at c.in-Ok.ensures.loaded.place
 
-pub returns-in-Ok-clause-quiet : goal.returns-in-Ok-clause-quiet
-returns-in-Ok-clause-quiet g c = quiet-trans (loom_told g.H.Host c.args.self.now) (loom_told g.H.Host c.load_with_room.new.self) (loom_told g.H.Host c.unmark.new.self) c.in-Ok.ensures.quiet c.unmark.ensures.quiet
+pub returns-in-Ok-clause-thinned : goal.returns-in-Ok-clause-thinned
+returns-in-Ok-clause-thinned g c =
+    let t = loom_told g.H.Host c.args.self.now in
+    let u = loom_told g.H.Host c.load_with_room.new.self in
+    let v = loom_told g.H.Host c.unmark.new.self in
+    thinned-trans t u v c.in-Ok.ensures.thinned (quiet-thinned u v c.unmark.ensures.quiet (thinned-ready t u c.in-Ok.ensures.thinned c.requires.ready))
 
 pub returns-in-Ok-clause-word : goal.returns-in-Ok-clause-word
 returns-in-Ok-clause-word g c = c.in-Ok.ensures.word ∙ ap (λ (regs : List ℕ). word_in regs c.args.of) (sym c.unmark.ensures.regs)
@@ -40,7 +45,7 @@ returns-in-Ok-clause-cached g c =
     let m = c.args.self.now in
     let u = c.load_with_room.new.self in
     let load = c.in-Ok.ensures in
-    opened-keeps g.H.Host m u c.unmark.new.self c.args.of c.in-Ok.s.0 load.sound load.quiet c.requires.name load.word
+    opened-keeps g.H.Host m u c.unmark.new.self c.args.of c.in-Ok.s.0 load.sound load.thinned c.requires.name load.word
     (load-searched g.H.Host m u c.args.of c.requires.sound load.sound c.requires.name load.there load.counted load.gentle load.idle load.minds).cached c.unmark.ensures.idle
 
 pub returns-in-Ok-clause-minds : goal.returns-in-Ok-clause-minds
@@ -49,7 +54,13 @@ returns-in-Ok-clause-minds g c =
     let u = c.load_with_room.new.self in
     let s = c.in-Ok.s.0 in
     let n = name_at ((loom_told g.H.Host m).regs c.args.of) in
-    minds-then g.H.Host m u c.unmark.new.self (IsBrought m u n) (λ k. k ≡ ((core_of u.parts).entries s).name) (λ k. k ≡ n) (λ k is. is.0) (λ k is. is ∙ entry-named g.H.Host m u c.args.of s c.in-Ok.ensures.sound c.in-Ok.ensures.quiet c.requires.name c.in-Ok.ensures.word) c.in-Ok.ensures.minds c.unmark.ensures.minds
+    minds-then g.H.Host m u c.unmark.new.self (IsBrought m u n) (λ k. k ≡ ((core_of u.parts).entries s).name) (λ k. k ≡ n) (λ k is. is.0) (λ k is. is ∙ entry-named g.H.Host m u c.args.of s c.in-Ok.ensures.sound c.in-Ok.ensures.thinned c.requires.name c.in-Ok.ensures.word) c.in-Ok.ensures.minds c.unmark.ensures.minds
 
 pub returns-in-Ok-clause-brings : goal.returns-in-Ok-clause-brings
 returns-in-Ok-clause-brings g c = brings-then c.args.self.now c.load_with_room.new.self c.unmark.new.self _ c.load_with_room.ensures.brings c.unmark.ensures.resting.idle.fetches
+
+pub returns-in-Ok-clause-freed : goal.returns-in-Ok-clause-freed
+returns-in-Ok-clause-freed g c =
+    let m = c.args.self.now in
+    let u = c.load_with_room.new.self in
+    freed-open g.H.Host m u c.unmark.new.self (name_at ((loom_told g.H.Host c.args.self.now).regs c.args.of)) (freed-away g.H.Host m u c.args.of c.requires.sound c.requires.name c.in-Ok.ensures.gone) c.unmark.ensures.quiet

@@ -1,4 +1,4 @@
-use Rattle.std.proofs.Common.{◌≡◌, [], true, refl, sym, ◌∙◌, ap, subst}
+use Rattle.std.proofs.Common.{Ok, ◌≡◌, [], true, refl, sym, ◌∙◌, ap, subst}
 use Rattle.long_names.specs.Access.{Pin, Nothing}
 use Rattle.object_memory.specs.Told.{Told, IsReady}
 use Rattle.object_table.specs.Entries.{is_short}
@@ -6,8 +6,10 @@ use Rattle.core_view.specs.Words.{meant}
 use Rattle.core_view.proofs.Core.{placed-used}
 use Rattle.leaf_lambda.specs.Parts.{core_of}
 use Rattle.loom_memory.specs.Memory.{loom_told, name_if}
-use Rattle.loom_memory.proofs.AccessLaws.{quiet-ready, refused-is}
-use Rattle.loom_memory.proofs.SlotLaws.{pin-name, pin-access, pin-has, ready-pin}
+use Rattle.loom_memory.proofs.AccessLaws.{refused-is}
+use Rattle.loom_memory.proofs.MakingLaws.{thinned-ready}
+use Rattle.loom_memory.proofs.SlotLaws.{pin-name, pin-has, ready-pin}
+use Rattle.loom_memory.proofs.ReachLaws.{done-by, pin-freed}
 use Rattle.long_names.specs.State.{name_at}
 use Rattle.loom_memory.proofs.GentleLaws.{steady-sparing, sparing-err}
 use Rattle.loom_memory.proofs.OneLaws.{brings-then}
@@ -27,13 +29,13 @@ put_slot-requires-clause-body g c = λ some. (c.in-Ok.ensures.sound.kept.parts.c
 pub returns-in-Ok-clause-access : goal.returns-in-Ok-clause-access
 returns-in-Ok-clause-access g c =
     let n = c.load.new.self in
-    pin-access (loom_told g.H.Host c.args.self.now) (loom_told g.H.Host n) (loom_told g.H.Host c.put_slot.new.self) c.args.slot c.args.r (name_if (core_of n.parts).entries c.in-Ok.s.0) c.in-Ok.ensures.quiet
+    pin-freed (loom_told g.H.Host c.args.self.now) (loom_told g.H.Host n) (loom_told g.H.Host c.put_slot.new.self) c.args.slot c.args.r (name_if (core_of n.parts).entries c.in-Ok.s.0) c.in-Ok.ensures.thinned
     (pin-name (core_of n.parts) c.in-Ok.s.0 ((loom_told g.H.Host n).regs c.args.r) (short-of g c) (value-of g c)) c.put_slot.ensures.told (c.in-Ok.ensures.core (Pin c.args.slot c.args.r) refl refl)
 
 pub returns-in-Ok-clause-fit : goal.returns-in-Ok-clause-fit
 returns-in-Ok-clause-fit g c =
     let n = c.load.new.self in
-    let ready = quiet-ready (loom_told g.H.Host c.args.self.now) (loom_told g.H.Host n) c.in-Ok.ensures.quiet c.requires.fit.ready in
+    let ready = thinned-ready (loom_told g.H.Host c.args.self.now) (loom_told g.H.Host n) c.in-Ok.ensures.thinned c.requires.fit.ready in
     record {
       sound = c.put_slot.ensures.sound;
       ready = subst (λ (t : Told). IsReady t) (sym c.put_slot.ensures.told) (ready-pin (loom_told g.H.Host n) c.args.slot (name_if (core_of n.parts).entries c.in-Ok.s.0)
@@ -55,3 +57,6 @@ returns-in-Err-clause-own g c = sparing-err g.H.Host c.args.self.now c.load.new.
 
 pub returns-in-Ok-clause-brings : goal.returns-in-Ok-clause-brings
 returns-in-Ok-clause-brings g c = brings-then c.args.self.now c.load.new.self c.put_slot.new.self _ c.load.ensures.brings c.put_slot.ensures.steady.idle.fetches
+
+pub returns-in-Ok-clause-gone : goal.returns-in-Ok-clause-gone
+returns-in-Ok-clause-gone g c = done-by {T = Unit {0}} (Ok tt) g.H.Host c.args.self.now c.load.new.self c.put_slot.new.self (name_at ((loom_told g.H.Host c.args.self.now).regs c.args.r)) (Pin c.args.slot c.args.r) c.in-Ok.ensures.thinned c.in-Ok.ensures.gone (λ told. ap (λ (t : Told). t.heap) c.put_slot.ensures.told)

@@ -1,6 +1,7 @@
 use Rattle.std.proofs.Common.{◌∙◌}
 use Rattle.loom_memory.specs.Memory.{loom_told}
-use Rattle.loom_memory.proofs.AskLaws.{ask-minds, first-fetches, thins-last, thins-now}
+use Rattle.loom_memory.proofs.AskLaws.{ask-minds, thins-last, thins-now}
+use Rattle.loom_memory.proofs.FirstRoomLaws.{alive-last}
 use Rattle.loom_memory.proofs.MakingLaws.{thinned-ready}
 use Rattle.loom_memory.proofs.memory.LoomMemory.purge_all.Goals as goal
 
@@ -19,7 +20,10 @@ returns-in-Ok-clause-fit g c = record {
 }
 
 pub returns-in-Ok-clause-fetches : goal.returns-in-Ok-clause-fetches
-returns-in-Ok-clause-fetches g c = first-fetches c.put_out.result c.args.self.now c.thin.new.self c.put_out.new.self c.in-Ok.ensures.ledger c.put_out.ensures.fetches
+returns-in-Ok-clause-fetches g c = c.put_out.ensures.fetches ∙ c.thin.ensures.fetches
 
 pub returns-in-Ok-clause-minds : goal.returns-in-Ok-clause-minds
 returns-in-Ok-clause-minds g c = ask-minds c.put_out.result g.H.Host c.args.self.now c.thin.new.self c.put_out.new.self c.in-Ok.ensures.minds c.put_out.ensures.minds
+
+pub returns-in-Ok-clause-gone : goal.returns-in-Ok-clause-gone
+returns-in-Ok-clause-gone g c = alive-last c.put_out.result g.H.Host c.thin.new.self c.put_out.new.self c.in-Ok.ensures.again c.put_out.ensures.quiet

@@ -19,19 +19,17 @@ use Rattle.loom_memory.specs.Residents.{fetched}
 use Rattle.loom_memory.proofs.KeepingLaws.{flag-off}
 use Rattle.loom_memory.proofs.MindLaws.{marks-keep}
 use Rattle.loom_memory.proofs.MindLaws.{minds-core, minds-refl}
+use Rattle.loom_memory.proofs.DeadLaws.{thin-quiet}
 use Rattle.loom_memory.proofs.memory.LoomMemory.put_away.Goals as goal
 use Rattle.loom_memory.proofs.memory.LoomMemory.put_away.Given as given
 
-pub entry-requires-clause-within : goal.entry-requires-clause-within
+pub used_entry-requires : goal.used_entry-requires
 unfolding core_of
-entry-requires-clause-within g c = let m = c.args.self.now in c.requires.sound.kept.parts.core.within (slice_index_or m.regs c.index.result 0) (named-now g.H.Host m c.args.of (slice_index_or m.regs c.index.result 0) c.requires.sound c.requires.ready c.requires.name (word-is m.regs c.index.result c.args.of c.index.ensures.same c.index.ensures.within c.requires.sound.kept.many)).used
-
-pub entry-requires-clause-short : goal.entry-requires-clause-short
-entry-requires-clause-short g c = let m = c.args.self.now in c.requires.sound.kept.parts.core.short (slice_index_or m.regs c.index.result 0) (named-now g.H.Host m c.args.of (slice_index_or m.regs c.index.result 0) c.requires.sound c.requires.ready c.requires.name (word-is m.regs c.index.result c.args.of c.index.ensures.same c.index.ensures.within c.requires.sound.kept.many)).used
+used_entry-requires g c = let m = c.args.self.now in (named-now g.H.Host m c.args.of (slice_index_or m.regs c.index.result 0) c.requires.sound c.requires.ready c.requires.name (word-is m.regs c.index.result c.args.of c.index.ensures.same c.index.ensures.within c.requires.sound.kept.many)).used
 
 pub evict-requires-clause-body : goal.evict-requires-clause-body
 unfolding core_of
-evict-requires-clause-body g c = let there = some-of c.place.result c.is_some.result c.is_some.ensures c.if-is_some.true in (there.0, ap (λ (e : Entry). place_of e.state) (sym c.entry.ensures) ∙ sym c.place.ensures ∙ there.1)
+evict-requires-clause-body g c = let there = some-of c.place.result c.is_some.result c.is_some.ensures c.if-is_some.true in (there.0, ap (λ (e : Entry). place_of e.state) (sym c.used_entry.ensures) ∙ sym c.place.ensures ∙ there.1)
 
 pub evict-requires-clause-sound : goal.evict-requires-clause-sound
 evict-requires-clause-sound g c = let m = c.args.self.now in exact-has g.H.Host m.parts m.disk.host.now m.disk.rest m.ledger.next c.requires.sound.exact
@@ -63,7 +61,9 @@ returns-in-Ok-clause-sound g c =
     record {
       kept = calm-kept m.parts c.evict.new.p m.regs m.pinned m.ledger c.requires.sound.kept (calm-of g c) c.evict.ensures.parts (c.evict.ensures.tight c.requires.sound.kept.tight) c.evict.ensures.size;
       over = over-is g.H.Host m.disk.host.now c.evict.new.disk.host.now m.disk.rest c.evict.new.disk.rest (core_of m.parts) (core_of c.evict.new.p) m.ledger c.requires.sound.over c.evict.ensures.room c.in-Ok.ensures.stands c.in-Ok.ensures.keeps c.in-Ok.ensures.counted;
+      soon = c.requires.sound.soon;
       exact = exact-then g.H.Host m.parts c.evict.new.p m.disk.host.now c.evict.new.disk.host.now m.disk.rest c.evict.new.disk.rest m.ledger.next c.requires.sound.exact c.in-Ok.ensures.sound;
+      thin = thin-quiet g.H.Host c.args.self.now _ c.requires.sound.thin (λ on. on) (returns-in-Ok-clause-quiet g c);
     }
 
 pub returns-in-Ok-clause-away : goal.returns-in-Ok-clause-away
@@ -84,7 +84,7 @@ returns-in-Err-clause-outside g c = c.refuse.ensures.outside ∙ work-outside g.
 
 placed : (g : given.Over) (c : goal.After-refuse g) → place_of ((core_of c.args.self.now.parts).entries (slice_index_or c.args.self.now.regs c.index.result 0)).state ≡ Some (some-of c.place.result c.is_some.result c.is_some.ensures c.if-is_some.true).0
 unfolding core_of
-placed g c = ap (λ (e : Entry). place_of e.state) (sym c.entry.ensures) ∙ sym c.place.ensures ∙ (some-of c.place.result c.is_some.result c.is_some.ensures c.if-is_some.true).1
+placed g c = ap (λ (e : Entry). place_of e.state) (sym c.used_entry.ensures) ∙ sym c.place.ensures ∙ (some-of c.place.result c.is_some.result c.is_some.ensures c.if-is_some.true).1
 
 pub returns-in-Err-clause-err : goal.returns-in-Err-clause-err
 returns-in-Err-clause-err g c = λ a silent none.
@@ -104,7 +104,7 @@ unfolding core_of
 returns-clause-away g c =
     let m = c.args.self.now in
     ap (λ (w : ℕ). place_of ((core_of m.parts).entries w).state) (sym (word-is m.regs c.index.result c.args.of c.index.ensures.same c.index.ensures.within c.requires.sound.kept.many))
-    ∙ ap (λ (e : Entry). place_of e.state) (sym c.entry.ensures) ∙ sym c.place.ensures ∙ none-of c.place.result c.is_some.result c.is_some.ensures c.if-is_some.false
+    ∙ ap (λ (e : Entry). place_of e.state) (sym c.used_entry.ensures) ∙ sym c.place.ensures ∙ none-of c.place.result c.is_some.result c.is_some.ensures c.if-is_some.false
 
 pub returns-in-Ok-clause-others : goal.returns-in-Ok-clause-others
 returns-in-Ok-clause-others g c =

@@ -44,7 +44,7 @@ returns-in-Some-clause-there g c =
     c.in-Some.ensures.there
 
 pub returns-in-Some-clause-fetches : goal.returns-in-Some-clause-fetches
-returns-in-Some-clause-fetches g c = c.put_word.ensures.steady.idle.fetches ∙ c.in-Some.ensures.fetches
+returns-in-Some-clause-fetches g c = c.put_word.ensures.steady.idle.fetches ∙ c.add_object.ensures.fetches
 
 pub returns-in-Some-clause-resting : goal.returns-in-Some-clause-resting
 returns-in-Some-clause-resting g c =
@@ -75,3 +75,6 @@ returns-in-Some-clause-minds g c =
     let n = c.add_object.new.self in
     minds-put g.H.Host c.args.self.now n c.put_word.new.self c.args.to c.args.name c.in-Some.ensures.minds c.in-Some.ensures.sound.kept.parts.core c.put_word.ensures.sound.kept.parts.core c.put_word.ensures.steady
     (c.put_word.ensures.told ∙ ap (λ (v : Value). record (loom_told g.H.Host n) { regs = set_register (loom_told g.H.Host n).regs c.args.to v }) (entry-means (core_of n.parts) c.in-Some.s.0 c.args.name c.in-Some.ensures.entry))
+
+pub returns-in-None-clause-fetches : goal.returns-in-None-clause-fetches
+returns-in-None-clause-fetches g c = c.refuse.ensures.brings ∙ c.add_object.ensures.fetches

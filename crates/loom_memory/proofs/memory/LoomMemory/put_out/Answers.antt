@@ -12,6 +12,7 @@ use Rattle.loom_memory.proofs.KnownLaws.{bare-then}
 use Rattle.loom_memory.proofs.ResidentLaws.{only-pinned}
 use Rattle.loom_memory.proofs.GentleLaws.{fetched-same}
 use Rattle.loom_memory.specs.Own.{MindsCache}
+use Rattle.std.proofs.Common.{◌∙◌}
 use Rattle.loom_memory.proofs.memory.LoomMemory.put_out.Goals as goal
 
 pub returns-in-Disk-clause-err : goal.returns-in-Disk-clause-err
@@ -49,3 +50,6 @@ returns-in-Short-clause-minds g c = subst (λ (z : RoomFault). OnShort z (MindsC
 
 pub returns-in-Disk-clause-fault : goal.returns-in-Disk-clause-fault
 returns-in-Disk-clause-fault g c = subst (λ (f : MemFault). IsLost f) (sym c.refuse.ensures.result) (fault-lost c.in-Disk.f c.refusal_of-f.result c.refusal_of-f.ensures)
+
+pub returns-in-Disk-clause-fetches : goal.returns-in-Disk-clause-fetches
+returns-in-Disk-clause-fetches g c = c.refuse.ensures.brings ∙ c.room.ensures.brings

@@ -5,6 +5,8 @@ use Rattle.loom_memory.specs.Memory.{loom_told, loom_outside}
 use Rattle.loom_memory.proofs.ExactLaws.{exact-work}
 use Rattle.loom_memory.proofs.SayLaws.{put-told, put-sound, put-outside, put-part}
 use Rattle.loom_memory.specs.Residents.{fetched}
+use Rattle.loom_memory.proofs.DeadLaws.{thin-of}
+use Rattle.object_memory.specs.Told.{Told}
 use Rattle.loom_memory.proofs.memory.LoomMemory.put_run.Goals as goal
 
 pub returns-in-Ok-clause-put : goal.returns-in-Ok-clause-put
@@ -15,7 +17,9 @@ pub returns-in-Ok-clause-sound : goal.returns-in-Ok-clause-sound
 returns-in-Ok-clause-sound g c = record {
   kept = c.requires.sound.kept;
   over = put-sound g.H.Host c.args.self.now c.write_to.new.self.host.now c.write_to.new.self.rest c.requires.sound c.write_to.ensures.rest c.write_to.ensures.work (λ told. (c.write_to.ensures.keeps c.requires.sound.over.stands told).stands told);
+  soon = c.requires.sound.soon;
   exact = exact-work g.H.Host c.args.self.now.parts c.args.self.now.disk.host.now c.write_to.new.self.host.now c.args.self.now.disk.rest c.write_to.new.self.rest c.args.self.now.ledger.next c.requires.sound.exact c.write_to.ensures.rest c.write_to.ensures.work;
+  thin = thin-of g.H.Host c.args.self.now _ c.requires.sound.thin (λ on. on) (ap (λ (t : Told). t.heap) (returns-in-Ok-clause-put g c).same) (ap (λ (t : Told). t.regs) (returns-in-Ok-clause-put g c).same) (ap (λ (t : Told). t.slots) (returns-in-Ok-clause-put g c).same);
 }
 
 pub returns-in-Ok-clause-outside : goal.returns-in-Ok-clause-outside
@@ -41,7 +45,9 @@ pub returns-in-Err-clause-sound : goal.returns-in-Err-clause-sound
 returns-in-Err-clause-sound g c = record {
   kept = c.requires.sound.kept;
   over = put-sound g.H.Host c.args.self.now c.write_to.new.self.host.now c.write_to.new.self.rest c.requires.sound c.write_to.ensures.rest c.write_to.ensures.work (λ told. (c.write_to.ensures.keeps c.requires.sound.over.stands told).stands told);
+  soon = c.requires.sound.soon;
   exact = exact-work g.H.Host c.args.self.now.parts c.args.self.now.disk.host.now c.write_to.new.self.host.now c.args.self.now.disk.rest c.write_to.new.self.rest c.args.self.now.ledger.next c.requires.sound.exact c.write_to.ensures.rest c.write_to.ensures.work;
+  thin = thin-of g.H.Host c.args.self.now _ c.requires.sound.thin (λ on. on) (ap (λ (t : Told). t.heap) (returns-in-Err-clause-part g c).1.same) (ap (λ (t : Told). t.regs) (returns-in-Err-clause-part g c).1.same) (ap (λ (t : Told). t.slots) (returns-in-Err-clause-part g c).1.same);
 }
 
 pub returns-in-Err-clause-outside : goal.returns-in-Err-clause-outside

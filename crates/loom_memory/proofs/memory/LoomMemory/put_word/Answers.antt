@@ -1,11 +1,9 @@
-use Rattle.std.proofs.Common.{sym, ◌∙◌, ap, ap₂}
+use Rattle.std.proofs.Common.{◌∙◌, ap₂}
 use Rattle.long_names.specs.declared.value.Value.{Value}
 use Rattle.long_names.specs.State.{set_register}
 use Rattle.object_memory.specs.Told.{Told}
-use Rattle.loom_memory.specs.Memory.{loom_told}
 use Rattle.loom_memory.proofs.GentleLaws.{steady-trans}
 use Rattle.loom_memory.proofs.memory.LoomMemory.put_word.Goals as goal
-use Rattle.loom_memory.proofs.memory.LoomMemory.put_word.Given as given
 
 pub returns-clause-told : goal.returns-clause-told
 returns-clause-told g c = c.replace_word.ensures.told ∙ ap₂ (λ (t : Told) (v : Value). record t { regs = set_register t.regs c.args.to v }) c.note_use.ensures.told c.note_use.ensures.means

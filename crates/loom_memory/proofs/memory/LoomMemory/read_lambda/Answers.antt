@@ -36,21 +36,19 @@ use Rattle.purger.specs.declared.eviction.TheConstants.{NOWHERE}
 use Rattle.loom_memory.proofs.DamageLaws.{nowhere-damage, refusal-damage}
 use Rattle.loom_memory.proofs.MindLaws.{came-remains, stored-came}
 use Rattle.loom_memory.specs.Residents.{fetched}
+use Rattle.loom_memory.proofs.DeadLaws.{thin-quiet}
 use Rattle.loom_memory.proofs.memory.LoomMemory.read_lambda.Goals as goal
 use Rattle.loom_memory.proofs.memory.LoomMemory.read_lambda.Given as given
 
-pub entry-e-requires-clause-short : goal.entry-e-requires-clause-short
-entry-e-requires-clause-short g c = c.requires.sound.kept.parts.core.short c.args.s.0 (placed-used ((core_of c.args.self.now.parts).entries c.args.s.0).state c.args.at.place c.requires.lambda.place)
-
-pub entry-e-requires-clause-within : goal.entry-e-requires-clause-within
+pub used_entry-e-requires : goal.used_entry-e-requires
 unfolding core_of
-entry-e-requires-clause-within g c = c.requires.sound.kept.parts.core.within c.args.s.0 (placed-used ((core_of c.args.self.now.parts).entries c.args.s.0).state c.args.at.place c.requires.lambda.place)
+used_entry-e-requires g c = placed-used ((core_of c.args.self.now.parts).entries c.args.s.0).state c.args.at.place c.requires.lambda.place
 
 fresh-none : (g : given.Over) (c : goal.After-wrong g) → IsTrue (loom_told g.H.Host c.args.self.now).tells → ⊥
 unfolding loom_told core_of
 fresh-none g c = λ told.
     let m = c.args.self.now in
-    ((c.requires.sound.over.backed told).body c.args.s.0 c.args.at.place c.requires.lambda.place).whole (ap (λ (e : Entry). e.flags.fresh) (sym c.entry-e.ensures) ∙ c.if-e.true) c.args.i c.requires.lambda.word
+    ((c.requires.sound.over.backed told).body c.args.s.0 c.args.at.place c.requires.lambda.place).whole (ap (λ (e : Entry). e.flags.fresh) (sym c.used_entry-e.ensures) ∙ c.if-e.true) c.args.i c.requires.lambda.word
 
 pub returns-then-e-clause-err : goal.returns-then-e-clause-err
 unfolding loom_told
@@ -66,11 +64,11 @@ returns-then-e-clause-outside g c = c.wrong.ensures.outside ∙ work-outside g.H
 
 pub long_field-requires-clause-record : goal.long_field-requires-clause-record
 unfolding core_of
-long_field-requires-clause-record g c = (c.in-Ok.ensures.copy (ap (λ (e : Entry). e.flags.fresh) (sym c.entry-e.ensures) ∙ c.if-e.false)).record_there
+long_field-requires-clause-record g c = (c.in-Ok.ensures.copy (ap (λ (e : Entry). e.flags.fresh) (sym c.used_entry-e.ensures) ∙ c.if-e.false)).record_there
 
 pub long_field-requires-clause-field : goal.long_field-requires-clause-field
 unfolding core_of
-long_field-requires-clause-field g c = let many = (c.in-Ok.ensures.copy (ap (λ (e : Entry). e.flags.fresh) (sym c.entry-e.ensures) ∙ c.if-e.false)).same_fields in let low = slice_get_within (pointers ((core_of c.args.self.now.parts).entries c.args.s.0).kind ((core_of c.args.self.now.parts).chunks c.args.at.place).words) c.args.i 0 c.requires.lambda.word in omega arith
+long_field-requires-clause-field g c = let many = (c.in-Ok.ensures.copy (ap (λ (e : Entry). e.flags.fresh) (sym c.used_entry-e.ensures) ∙ c.if-e.false)).same_fields in let low = slice_get_within (pointers ((core_of c.args.self.now.parts).entries c.args.s.0).kind ((core_of c.args.self.now.parts).chunks c.args.at.place).words) c.args.i 0 c.requires.lambda.word in omega arith
 
 -- where the heap is told, what a lambda means has its object
 above-none : (g : given.Over) (c : goal.After-wrong-then-not-is_below g) → IsTrue (loom_told g.H.Host c.args.self.now).tells → ⊥
@@ -78,7 +76,7 @@ unfolding loom_told core_of
 above-none g c = λ told.
     let m = c.args.self.now in
     let disk : Disk = disk_of g.H.Host m.disk.host.now m.disk.rest in
-    let clean : ((core_of m.parts).entries c.args.s.0).flags.fresh ≡ false = ap (λ (e : Entry). e.flags.fresh) (sym c.entry-e.ensures) ∙ c.if-e.false in
+    let clean : ((core_of m.parts).entries c.args.s.0).flags.fresh ≡ false = ap (λ (e : Entry). e.flags.fresh) (sym c.used_entry-e.ensures) ∙ c.if-e.false in
     let long : slice_get (fields_there (disk ((core_of m.parts).entries c.args.s.0).name)) c.args.i ≡ Some (value_in c.long_field.result) =
     ap (λ o. slice_get (fields_there o) c.args.i) (c.in-Ok.ensures.there told clean) ∙ ap (λ (vs : List Value). slice_get vs c.args.i) (fields-values (raw_of c.read_copy.new.buf).body)
     ∙ map-get (longs_of (raw_of c.read_copy.new.buf).body) c.args.i (let many = (c.in-Ok.ensures.copy clean).same_fields in let low = slice_get_within (pointers ((core_of m.parts).entries c.args.s.0).kind ((core_of m.parts).chunks c.args.at.place).words) c.args.i 0 c.requires.lambda.word in omega arith)
@@ -105,15 +103,15 @@ resolve-requires-clause-light g c = λ t. let m = c.args.self.now in few-held (c
 
 pub resolve-requires-clause-record : goal.resolve-requires-clause-record
 unfolding core_of
-resolve-requires-clause-record g c = (c.in-Ok.ensures.copy (ap (λ (e : Entry). e.flags.fresh) (sym c.entry-e.ensures) ∙ c.if-e.false)).record_there
+resolve-requires-clause-record g c = (c.in-Ok.ensures.copy (ap (λ (e : Entry). e.flags.fresh) (sym c.used_entry-e.ensures) ∙ c.if-e.false)).record_there
 
 pub resolve-requires-clause-field : goal.resolve-requires-clause-field
 unfolding core_of
-resolve-requires-clause-field g c = let many = (c.in-Ok.ensures.copy (ap (λ (e : Entry). e.flags.fresh) (sym c.entry-e.ensures) ∙ c.if-e.false)).same_fields in let low = slice_get_within (pointers ((core_of c.args.self.now.parts).entries c.args.s.0).kind ((core_of c.args.self.now.parts).chunks c.args.at.place).words) c.args.i 0 c.requires.lambda.word in omega arith
+resolve-requires-clause-field g c = let many = (c.in-Ok.ensures.copy (ap (λ (e : Entry). e.flags.fresh) (sym c.used_entry-e.ensures) ∙ c.if-e.false)).same_fields in let low = slice_get_within (pointers ((core_of c.args.self.now.parts).entries c.args.s.0).kind ((core_of c.args.self.now.parts).chunks c.args.at.place).words) c.args.i 0 c.requires.lambda.word in omega arith
 
 fresh-is : (g : given.Over) (c : goal.After-resolve g) → ((core_of c.args.self.now.parts).entries c.args.s.0).flags.fresh ≡ false
 unfolding core_of
-fresh-is g c = ap (λ (e : Entry). e.flags.fresh) (sym c.entry-e.ensures) ∙ c.if-e.false
+fresh-is g c = ap (λ (e : Entry). e.flags.fresh) (sym c.used_entry-e.ensures) ∙ c.if-e.false
 
 there-of : (g : given.Over) (c : goal.After-resolve g) → IsTrue (g.H.Host.tells Work) → disk_of g.H.Host c.args.self.now.disk.host.now c.args.self.now.disk.rest ((core_of c.args.self.now.parts).entries c.args.s.0).name ≡ Some (object_in (raw_of c.read_copy.new.buf))
 there-of g c = λ told. c.in-Ok.ensures.there told (fresh-is g c)
@@ -145,7 +143,9 @@ returns-else-not-is_below-clause-sound g c =
         based = subst (λ (n : ℕ). IsNumbered m.ledger.base m.ledger.made m.ledger.held m.ledger.next n) (sym (ap disk_room c.in-Ok.ensures.rest)) c.requires.sound.over.based;
         valued = λ told. subst (λ (d : Disk). IsValued d) (sym (ap (λ (k : Disk). held (core_of c.resolve.new.p) k) c.in-Ok.ensures.same ∙ (keeps-of g c told).held)) (c.requires.sound.over.valued told);
       };
+      soon = c.requires.sound.soon;
       exact = exact-brought g.H.Host m.parts c.resolve.new.p m.disk.host.now c.read_copy.new.disk.host.now m.disk.rest c.read_copy.new.disk.rest c.args.s.0 m.ledger.next c.requires.sound.exact c.in-Ok.ensures.rest c.in-Ok.ensures.read c.resolve.ensures.parts (keeps-of g c) c.resolve.ensures.naming c.resolve.ensures.within;
+      thin = thin-quiet g.H.Host c.args.self.now _ c.requires.sound.thin (λ on. on) (returns-else-not-is_below-clause-quiet g c);
     }
 
 pub returns-else-not-is_below-clause-mark : goal.returns-else-not-is_below-clause-mark
@@ -210,11 +210,11 @@ returns-else-not-is_below-clause-below g c = subst (λ (n : ℕ). IsBelow c.args
 
 pub returns-then-e-clause-damage : goal.returns-then-e-clause-damage
 unfolding core_of
-returns-then-e-clause-damage g c = nowhere-damage c.wrong.new.self.disk.rest ((core_of c.args.self.now.parts).entries c.args.s.0).name c.wrong.result (c.wrong.ensures.is ∙ ap (λ (e : Entry). Damaged NOWHERE e.name) c.entry-e.ensures)
+returns-then-e-clause-damage g c = nowhere-damage c.wrong.new.self.disk.rest ((core_of c.args.self.now.parts).entries c.args.s.0).name c.wrong.result (c.wrong.ensures.is ∙ ap (λ (e : Entry). Damaged NOWHERE e.name) c.used_entry-e.ensures)
 
 pub returns-then-not-is_below-clause-damage : goal.returns-then-not-is_below-clause-damage
 unfolding core_of
-returns-then-not-is_below-clause-damage g c = nowhere-damage c.wrong-then-not-is_below.new.self.disk.rest ((core_of c.args.self.now.parts).entries c.args.s.0).name c.wrong-then-not-is_below.result (c.wrong-then-not-is_below.ensures.is ∙ ap (λ (e : Entry). Damaged NOWHERE e.name) c.entry-e.ensures)
+returns-then-not-is_below-clause-damage g c = nowhere-damage c.wrong-then-not-is_below.new.self.disk.rest ((core_of c.args.self.now.parts).entries c.args.s.0).name c.wrong-then-not-is_below.result (c.wrong-then-not-is_below.ensures.is ∙ ap (λ (e : Entry). Damaged NOWHERE e.name) c.used_entry-e.ensures)
 
 pub returns-in-Err-clause-damage : goal.returns-in-Err-clause-damage
 returns-in-Err-clause-damage g c =

@@ -8,10 +8,11 @@ use Rattle.disk_objects.specs.Function.{disk_of}
 use Rattle.leaf_lambda.specs.Parts.{core_of}
 use Rattle.loom_memory.specs.Memory.{loom_told}
 use Rattle.loom_memory.specs.Bodies.{HasRun, LacksRun}
-use Rattle.loom_memory.proofs.AccessLaws.{quiet-ready, refused-is}
+use Rattle.loom_memory.proofs.AccessLaws.{refused-is}
+use Rattle.loom_memory.proofs.MakingLaws.{thinned-ready}
 use Rattle.loom_memory.proofs.FieldLaws.{told-tells}
-use Rattle.loom_memory.proofs.BodyLaws.{part-here, part-still}
-use Rattle.loom_memory.proofs.ReadLaws.{read-answered}
+use Rattle.loom_memory.proofs.BodyLaws.{part-here}
+use Rattle.loom_memory.proofs.ReachLaws.{amiss-freed, part-left, read-freed}
 use Rattle.long_names.specs.State.{name_at}
 use Rattle.loom_memory.proofs.GentleLaws.{amiss-sparing, sparing-ok, sparing-err}
 use Rattle.loom_memory.proofs.DamageLaws.{amiss-damage}
@@ -32,7 +33,7 @@ returns-then-words_into-clause-access g c =
     let there = c.in-Ok.ensures.loaded in
     let o = object_at (core_of n.parts) (disk_of g.H.Host n.disk.host.now n.disk.rest) ((core_of n.parts).entries c.in-Ok.s.0) there.at in
     let has : HasRun (words_of o.body) c.args.at (length c.args.out.now) c.words_into.new.out = subst (λ (b : Bool). MatchBool b (HasRun (words_of o.body) c.args.at (length c.args.out.now) c.words_into.new.out) (LacksRun (words_of o.body) c.args.at (length c.args.out.now))) c.if-words_into.true (c.words_into.ensures (disk_of g.H.Host n.disk.host.now n.disk.rest) there.at there.place) in
-    read-answered {A = Unit {0}} t (loom_told g.H.Host n) (ReadWords c.args.of c.args.at (length c.args.out.now)) (λ _. OfRun c.words_into.new.out) tt refl c.in-Ok.ensures.quiet
+    read-freed {A = Unit {0}} t (loom_told g.H.Host n) (ReadWords c.args.of c.args.at (length c.args.out.now)) c.args.of (λ _. OfRun c.words_into.new.out) tt refl refl refl c.in-Ok.ensures.thinned
     (λ told. ap (λ (x : Option (List ℕ)). option_and_then (λ xs. Some (OfRun (take (length c.args.out.now) (drop c.args.at xs)))) x) (part-here (loom_told g.H.Host n) c.args.of o words_of (Some has.0) (there.object (told-tells g.H.Host c.args.self.now told)) has.1) ∙ ap (λ (r : List ℕ). Some (OfRun r)) (sym has.2))
     (c.in-Ok.ensures.core (ReadWords c.args.of c.args.at (length c.args.out.now)) refl refl)
 
@@ -44,13 +45,13 @@ untold g c told =
     let o = object_at (core_of n.parts) (disk_of g.H.Host n.disk.host.now n.disk.rest) ((core_of n.parts).entries c.in-Ok.s.0) there.at in
     let lacks : LacksRun (words_of o.body) c.args.at (length c.args.out.now) = subst (λ (b : Bool). MatchBool b (HasRun (words_of o.body) c.args.at (length c.args.out.now) c.words_into.new.out) (LacksRun (words_of o.body) c.args.at (length c.args.out.now))) c.if-words_into.false (c.words_into.ensures (disk_of g.H.Host n.disk.host.now n.disk.rest) there.at there.place) in
     let can = c.requires.may.heap told in
-    lacks can.0 (part-still t (loom_told g.H.Host n) c.args.of o words_of (Some can.0) c.in-Ok.ensures.quiet (there.object (told-tells g.H.Host c.args.self.now told)) can.1) can.2
+    lacks can.0 (part-left t (loom_told g.H.Host n) c.args.of o words_of (Some can.0) c.in-Ok.ensures.thinned told (there.object (told-tells g.H.Host c.args.self.now told)) can.1) can.2
 
 pub returns-else-words_into-clause-access : goal.returns-else-words_into-clause-access
 returns-else-words_into-clause-access g c =
     let t = loom_told g.H.Host c.args.self.now in
     refused-is {A = Unit {0}} t (loom_told g.H.Host c.amiss.new.self) (ReadWords c.args.of c.args.at (length c.args.out.now)) (λ _. OfRun c.words_into.new.out) c.amiss.result
-    (c.amiss.ensures.err t (ReadWords c.args.of c.args.at (length c.args.out.now)) c.in-Ok.ensures.quiet c.requires.fit.ready tt refl (untold g c))
+    (amiss-freed t (loom_told g.H.Host c.load.new.self) (loom_told g.H.Host c.amiss.new.self) (ReadWords c.args.of c.args.at (length c.args.out.now)) c.args.of c.amiss.result refl refl tt c.in-Ok.ensures.thinned c.requires.fit.ready c.amiss.ensures.err (untold g c))
 
 pub returns-in-Err-clause-access : goal.returns-in-Err-clause-access
 returns-in-Err-clause-access g c = refused-is {A = Unit {0}} (loom_told g.H.Host c.args.self.now) (loom_told g.H.Host c.load.new.self) (ReadWords c.args.of c.args.at (length c.args.out.now)) (λ _. OfRun c.args.out.now) c.in-Err.f (c.in-Err.ensures.err (ReadWords c.args.of c.args.at (length c.args.out.now)) refl refl tt)
@@ -58,7 +59,7 @@ returns-in-Err-clause-access g c = refused-is {A = Unit {0}} (loom_told g.H.Host
 pub returns-then-words_into-clause-fit : goal.returns-then-words_into-clause-fit
 returns-then-words_into-clause-fit g c = record {
   sound = c.in-Ok.ensures.sound;
-  ready = quiet-ready (loom_told g.H.Host c.args.self.now) (loom_told g.H.Host c.load.new.self) c.in-Ok.ensures.quiet c.requires.fit.ready;
+  ready = thinned-ready (loom_told g.H.Host c.args.self.now) (loom_told g.H.Host c.load.new.self) c.in-Ok.ensures.thinned c.requires.fit.ready;
   lender = c.in-Ok.ensures.lender;
   outside = c.in-Ok.ensures.outside;
 }
@@ -73,7 +74,7 @@ pub returns-in-Err-clause-own : goal.returns-in-Err-clause-own
 returns-in-Err-clause-own g c = sparing-err g.H.Host c.args.self.now c.load.new.self (name_at ((loom_told g.H.Host c.args.self.now).regs c.args.of)) c.in-Err.f c.in-Err.ensures.own
 
 pub returns-else-words_into-clause-damage : goal.returns-else-words_into-clause-damage
-returns-else-words_into-clause-damage g c = λ room. amiss-damage g.H.Host c.args.self.now c.load.new.self c.args.of c.in-Ok.s.0 c.amiss.new.self.disk.rest c.amiss.result c.in-Ok.ensures.sound c.in-Ok.ensures.quiet c.requires.may.names c.in-Ok.ensures.word c.amiss.ensures.is
+returns-else-words_into-clause-damage g c = λ room. amiss-damage g.H.Host c.args.self.now c.load.new.self c.args.of c.in-Ok.s.0 c.amiss.new.self.disk.rest c.amiss.result c.in-Ok.ensures.sound c.in-Ok.ensures.thinned c.requires.may.names c.in-Ok.ensures.word c.amiss.ensures.is
 
 pub returns-else-words_into-clause-brings : goal.returns-else-words_into-clause-brings
 returns-else-words_into-clause-brings g c = brings-then c.args.self.now c.load.new.self c.amiss.new.self _ c.load.ensures.brings c.amiss.ensures.brings

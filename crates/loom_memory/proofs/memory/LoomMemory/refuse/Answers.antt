@@ -5,7 +5,9 @@ use Rattle.loom_memory.specs.declared.ledger.Ledger.{Ledger}
 use Rattle.method_cache.specs.Found.{found}
 use Rattle.loom_memory.specs.Cache.{cache_of}
 use Rattle.loom_memory.specs.Residents.{fetched}
+use Rattle.loom_memory.proofs.DeadLaws.{refused-sound}
 use Rattle.loom_memory.proofs.GentleLaws.{remains-refl}
+use Rattle.loom_memory.specs.Thinned.{is_thinned}
 use Rattle.loom_memory.proofs.memory.LoomMemory.refuse.Goals as goal
 
 pub returns-clause-told : goal.returns-clause-told
@@ -36,3 +38,10 @@ returns-clause-spared g c =
 pub returns-clause-brings : goal.returns-clause-brings
 unfolding fetched
 returns-clause-brings g c = ap (λ (l : Ledger). l.fetches) c.refuse.ensures.refused
+
+pub returns-clause-sound : goal.returns-clause-sound
+returns-clause-sound g c = λ sound. refused-sound g.H.Host c.args.self.now c.refuse.new.self _ _ c.refuse.ensures.refused sound
+
+pub returns-clause-thinned : goal.returns-clause-thinned
+unfolding is_thinned
+returns-clause-thinned g c = refl

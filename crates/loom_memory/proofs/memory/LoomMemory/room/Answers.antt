@@ -8,6 +8,8 @@ use Rattle.loom_memory.proofs.GentleLaws.{bodies-remain, rest-refl}
 use Rattle.loom_memory.proofs.MindLaws.{marks-keep}
 use Rattle.loom_memory.proofs.MindLaws.{minds-room}
 use Rattle.loom_memory.specs.Residents.{fetched}
+use Rattle.loom_memory.proofs.DeadLaws.{thin-if}
+use Rattle.loom_memory.specs.Thinned.{is_thinned}
 use Rattle.loom_memory.proofs.memory.LoomMemory.room.Goals as goal
 use Rattle.loom_memory.proofs.memory.LoomMemory.room.Given as given
 
@@ -34,6 +36,7 @@ returns-clause-quiet g c = let m = c.args.self.now in quiet-if g.H.Host c.make_r
 pub returns-clause-sound : goal.returns-clause-sound
 returns-clause-sound g c = let m = c.args.self.now in kept-if g.H.Host c.make_room.result _ (kept-of g c) (sound-if g.H.Host c.make_room.result m.disk.host.now c.make_room.new.disk.host.now m.disk.rest c.make_room.new.disk.rest (core_of m.parts) (core_of c.make_room.new.p) m.ledger c.requires.sound.over c.make_room.ensures.limit c.make_room.ensures.stands c.make_room.ensures.keeps c.make_room.ensures.counted)
     (exact-if g.H.Host c.make_room.result m.parts c.make_room.new.p m.disk.host.now c.make_room.new.disk.host.now m.disk.rest c.make_room.new.disk.rest m.ledger.next c.requires.sound.exact c.make_room.ensures.sound)
+    (thin-if g.H.Host c.make_room.result m _ c.requires.sound.thin (λ on. on) (returns-clause-quiet g c)) c.requires.sound.soon
 
 pub returns-clause-outside : goal.returns-clause-outside
 unfolding loom_outside
@@ -51,3 +54,7 @@ returns-clause-minds g c = minds-room c.make_room.result g.H.Host c.args.self.no
 pub returns-clause-brings : goal.returns-clause-brings
 unfolding fetched
 returns-clause-brings g c = refl
+
+pub returns-clause-thinned : goal.returns-clause-thinned
+unfolding is_thinned
+returns-clause-thinned g c = refl

@@ -10,9 +10,10 @@ use Rattle.loom_memory.specs.Memory.{loom_told, IsSound}
 use Rattle.loom_memory.specs.Says.{text_at}
 use Rattle.loom_memory.proofs.AccessLaws.{refused-is}
 use Rattle.loom_memory.proofs.FieldLaws.{told-tells}
-use Rattle.loom_memory.proofs.BodyLaws.{part-still}
+use Rattle.loom_memory.proofs.ReachLaws.{amiss-freed, done-by, part-left, quiet-refl, said-freed, said-heap}
+use Rattle.loom_memory.proofs.MakingLaws.{thinned-ready}
 use Rattle.loom_memory.proofs.SayLaws.{silent-refused}
-use Rattle.loom_memory.proofs.TextLaws.{text-loaded, text-none, text-long, said-from, failed-from, say-last, say-ready, keeps-sound, all-said}
+use Rattle.loom_memory.proofs.TextLaws.{text-loaded, text-none, text-long, said-from, say-ready, keeps-sound}
 use Rattle.long_names.specs.State.{name_at}
 use Rattle.loom_memory.proofs.GentleLaws.{then-heard}
 use Rattle.loom_memory.proofs.DamageLaws.{amiss-damage, undamaged-of}
@@ -20,20 +21,17 @@ use Rattle.loom_memory.proofs.OneLaws.{brings-then}
 use Rattle.loom_memory.proofs.memory.LoomMemory.say.Goals as goal
 use Rattle.loom_memory.proofs.memory.LoomMemory.say.Given as given
 
-pub entry-e-requires-clause-within : goal.entry-e-requires-clause-within
+pub used_entry-e-requires : goal.used_entry-e-requires
 unfolding core_of
-entry-e-requires-clause-within g c = c.in-Ok.ensures.sound.kept.parts.core.within c.in-Ok.s.0 (placed-used ((core_of c.load.new.self.parts).entries c.in-Ok.s.0).state c.in-Ok.ensures.loaded.at c.in-Ok.ensures.loaded.place)
-
-pub entry-e-requires-clause-short : goal.entry-e-requires-clause-short
-entry-e-requires-clause-short g c = c.in-Ok.ensures.sound.kept.parts.core.short c.in-Ok.s.0 (placed-used ((core_of c.load.new.self.parts).entries c.in-Ok.s.0).state c.in-Ok.ensures.loaded.at c.in-Ok.ensures.loaded.place)
+used_entry-e-requires g c = placed-used ((core_of c.load.new.self.parts).entries c.in-Ok.s.0).state c.in-Ok.ensures.loaded.at c.in-Ok.ensures.loaded.place
 
 pub say_text-requires-clause-text : goal.say_text-requires-clause-text
 unfolding core_of
-say_text-requires-clause-text g c = text-loaded g.H.Host c.load.new.self c.args.of c.in-Ok.s.0 c.in-Ok.ensures.loaded (ap (λ (e : Entry). e.kind) (sym c.entry-e.ensures) ∙ c.has_text.ensures.has c.if-has_text.true)
+say_text-requires-clause-text g c = text-loaded g.H.Host c.load.new.self c.args.of c.in-Ok.s.0 c.in-Ok.ensures.loaded (ap (λ (e : Entry). e.kind) (sym c.used_entry-e.ensures) ∙ c.has_text.ensures.has c.if-has_text.true)
 
 pub say_text-requires-clause-len : goal.say_text-requires-clause-len
 unfolding core_of
-say_text-requires-clause-len g c = ap (λ (e : Entry). e.len) c.entry-e.ensures
+say_text-requires-clause-len g c = ap (λ (e : Entry). e.len) c.used_entry-e.ensures
 
 pub amiss-requires-clause-used : goal.amiss-requires-clause-used
 amiss-requires-clause-used g c = placed-used ((core_of c.load.new.self.parts).entries c.in-Ok.s.0).state c.in-Ok.ensures.loaded.at c.in-Ok.ensures.loaded.place
@@ -45,12 +43,10 @@ returns-then-has_text-clause-access g c =
     let n = c.load.new.self in
     let u = loom_told g.H.Host n in
     let v = loom_told g.H.Host c.say_text.new.self in
-    let text = text-loaded g.H.Host n c.args.of c.in-Ok.s.0 c.in-Ok.ensures.loaded (ap (λ (e : Entry). e.kind) (sym c.entry-e.ensures) ∙ c.has_text.ensures.has c.if-has_text.true) in
-    let len : c.entry-e.result.len ≡ ((core_of n.parts).entries c.in-Ok.s.0).len = ap (λ (e : Entry). e.len) c.entry-e.ensures in
-    say-last c.say_text.result t v c.args.of c.entry-e.result.len (said-from c.say_text.result t u v c.args.of c.entry-e.result.len c.say_text.ensures.said c.in-Ok.ensures.quiet) (failed-from c.say_text.result t u v c.args.of c.say_text.ensures.err c.requires.fit.ready c.in-Ok.ensures.quiet)
-    (λ told. all-said t u c.args.of c.entry-e.result.len (text_at (core_of n.parts) c.in-Ok.s.0 text.at) c.in-Ok.ensures.quiet (text.says (told-tells g.H.Host c.args.self.now told))
-    (text-long (core_of n.parts) c.in-Ok.s.0 text.at c.in-Ok.ensures.sound.kept.parts.core text.place text.kind ∙ sym len))
-    (c.in-Ok.ensures.core (Say c.args.of) refl refl)
+    let text = text-loaded g.H.Host n c.args.of c.in-Ok.s.0 c.in-Ok.ensures.loaded (ap (λ (e : Entry). e.kind) (sym c.used_entry-e.ensures) ∙ c.has_text.ensures.has c.if-has_text.true) in
+    let len : c.used_entry-e.result.len ≡ ((core_of n.parts).entries c.in-Ok.s.0).len = ap (λ (e : Entry). e.len) c.used_entry-e.ensures in
+    said-freed c.say_text.result t u v c.args.of c.used_entry-e.result.len (text_at (core_of n.parts) c.in-Ok.s.0 text.at) c.in-Ok.ensures.thinned c.requires.fit.ready c.say_text.ensures.said c.say_text.ensures.err
+    (λ told. text.says (told-tells g.H.Host c.args.self.now told)) (text-long (core_of n.parts) c.in-Ok.s.0 text.at c.in-Ok.ensures.sound.kept.parts.core text.place text.kind ∙ sym len) (c.in-Ok.ensures.core (Say c.args.of) refl refl)
 
 pub returns-then-has_text-clause-fit : goal.returns-then-has_text-clause-fit
 returns-then-has_text-clause-fit g c =
@@ -59,7 +55,7 @@ returns-then-has_text-clause-fit g c =
     let v = loom_told g.H.Host c.say_text.new.self in
     record {
       sound = keeps-sound c.say_text.result (IsSound g.H.Host c.say_text.new.self) c.say_text.ensures.sound;
-      ready = say-ready c.say_text.result t v c.args.of c.entry-e.result.len (said-from c.say_text.result t u v c.args.of c.entry-e.result.len c.say_text.ensures.said c.in-Ok.ensures.quiet) c.requires.fit.ready;
+      ready = say-ready c.say_text.result u v c.args.of c.used_entry-e.result.len (said-from c.say_text.result u u v c.args.of c.used_entry-e.result.len c.say_text.ensures.said (quiet-refl u)) (thinned-ready t u c.in-Ok.ensures.thinned c.requires.fit.ready);
       lender = c.say_text.ensures.lender ∙ c.in-Ok.ensures.lender;
       outside = c.say_text.ensures.outside ∙ c.in-Ok.ensures.outside;
     }
@@ -70,7 +66,7 @@ no-text g c =
     let n = c.load.new.self in
     let e = (core_of n.parts).entries c.in-Ok.s.0 in
     text-none (core_of n.parts).entries (fields_there (disk_of g.H.Host n.disk.host.now n.disk.rest e.name)) ((core_of n.parts).chunks c.in-Ok.ensures.loaded.at).words e.kind e.len
-    (λ is. c.has_text.ensures.lacks c.if-has_text.false (ap (λ (e : Entry). e.kind) c.entry-e.ensures ∙ is))
+    (λ is. c.has_text.ensures.lacks c.if-has_text.false (ap (λ (e : Entry). e.kind) c.used_entry-e.ensures ∙ is))
 
 pub returns-else-has_text-clause-access : goal.returns-else-has_text-clause-access
 returns-else-has_text-clause-access g c =
@@ -79,9 +75,9 @@ returns-else-has_text-clause-access g c =
     let there = c.in-Ok.ensures.loaded in
     let o = object_at (core_of n.parts) (disk_of g.H.Host n.disk.host.now n.disk.rest) ((core_of n.parts).entries c.in-Ok.s.0) there.at in
     refused-is t (loom_told g.H.Host c.amiss.new.self) (Say c.args.of) (λ _. Nothing) c.amiss.result
-    (silent-refused t (loom_told g.H.Host c.amiss.new.self) c.args.of c.amiss.result (c.amiss.ensures.err t (KindOf c.args.of) c.in-Ok.ensures.quiet c.requires.fit.ready tt refl
+    (silent-refused t (loom_told g.H.Host c.amiss.new.self) c.args.of c.amiss.result (amiss-freed t (loom_told g.H.Host n) (loom_told g.H.Host c.amiss.new.self) (KindOf c.args.of) c.args.of c.amiss.result refl refl tt c.in-Ok.ensures.thinned c.requires.fit.ready c.amiss.ensures.err
     (λ told. let can = c.requires.may.heap told in
-    let both : None ≡ Some can.0 = sym (no-text g c) ∙ part-still t (loom_told g.H.Host n) c.args.of o text_of (Some can.0) c.in-Ok.ensures.quiet (there.object (told-tells g.H.Host c.args.self.now told)) can.1 in
+    let both : None ≡ Some can.0 = sym (no-text g c) ∙ part-left t (loom_told g.H.Host n) c.args.of o text_of (Some can.0) c.in-Ok.ensures.thinned told (there.object (told-tells g.H.Host c.args.self.now told)) can.1 in
     absurd (cc))))
 
 pub returns-in-Err-clause-access : goal.returns-in-Err-clause-access
@@ -95,10 +91,14 @@ pub returns-then-has_text-clause-damage : goal.returns-then-has_text-clause-dama
 returns-then-has_text-clause-damage g c = undamaged-of c.say_text.result c.args.self.now c.say_text.new.self (name_at ((loom_told g.H.Host c.args.self.now).regs c.args.of)) c.say_text.ensures.undamaged
 
 pub returns-else-has_text-clause-damage : goal.returns-else-has_text-clause-damage
-returns-else-has_text-clause-damage g c = λ room. amiss-damage g.H.Host c.args.self.now c.load.new.self c.args.of c.in-Ok.s.0 c.amiss.new.self.disk.rest c.amiss.result c.in-Ok.ensures.sound c.in-Ok.ensures.quiet c.requires.may.names c.in-Ok.ensures.word c.amiss.ensures.is
+returns-else-has_text-clause-damage g c = λ room. amiss-damage g.H.Host c.args.self.now c.load.new.self c.args.of c.in-Ok.s.0 c.amiss.new.self.disk.rest c.amiss.result c.in-Ok.ensures.sound c.in-Ok.ensures.thinned c.requires.may.names c.in-Ok.ensures.word c.amiss.ensures.is
 
 pub returns-then-has_text-clause-brings : goal.returns-then-has_text-clause-brings
 returns-then-has_text-clause-brings g c = brings-then c.args.self.now c.load.new.self c.say_text.new.self _ c.load.ensures.brings c.say_text.ensures.brings
 
 pub returns-else-has_text-clause-brings : goal.returns-else-has_text-clause-brings
 returns-else-has_text-clause-brings g c = brings-then c.args.self.now c.load.new.self c.amiss.new.self _ c.load.ensures.brings c.amiss.ensures.brings
+
+pub returns-then-has_text-clause-gone : goal.returns-then-has_text-clause-gone
+returns-then-has_text-clause-gone g c = done-by c.say_text.result g.H.Host c.args.self.now c.load.new.self c.say_text.new.self (name_at ((loom_told g.H.Host c.args.self.now).regs c.args.of)) (Say c.args.of) c.in-Ok.ensures.thinned c.in-Ok.ensures.gone
+    (said-heap c.say_text.result g.H.Host c.load.new.self c.say_text.new.self c.args.of c.used_entry-e.result.len c.say_text.ensures.said)

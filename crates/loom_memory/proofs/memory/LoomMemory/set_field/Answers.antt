@@ -9,7 +9,9 @@ use Rattle.loom_memory.proofs.GentleLaws.{here-searched, here-sparing, changed-s
 use Rattle.loom_memory.proofs.KeepingLaws.{flag-off, other-keeps}
 use Rattle.loom_memory.proofs.MindLaws.{minds-wide}
 use Rattle.loom_memory.proofs.GentleLaws.{entry-named}
+use Rattle.loom_memory.proofs.MakingLaws.{quiet-thinned}
 use Rattle.loom_memory.proofs.OneLaws.{brings-none}
+use Rattle.loom_memory.proofs.ReachLaws.{done-here}
 use Rattle.loom_memory.proofs.memory.LoomMemory.set_field.Goals as goal
 
 pub word_in_body-requires-clause-there : goal.word_in_body-requires-clause-there
@@ -68,7 +70,10 @@ returns-in-Some-word_in_body-clause-minds g c =
     let m = c.args.self.now in
     let s = c.in-Some.s.0 in
     let n = name_at ((loom_told g.H.Host m).regs c.args.of) in
-    minds-wide g.H.Host None m c.replace_field.new.self (λ k. k ≡ ((core_of m.parts).entries s).name) (λ k. k ≡ n) (λ k is. is ∙ entry-named g.H.Host m m c.args.of s c.requires.fit.sound (quiet-same g.H.Host m) c.requires.may.names c.in-Some.ensures.word) c.replace_field.ensures.minds
+    minds-wide g.H.Host None m c.replace_field.new.self (λ k. k ≡ ((core_of m.parts).entries s).name) (λ k. k ≡ n) (λ k is. is ∙ entry-named g.H.Host m m c.args.of s c.requires.fit.sound (quiet-thinned (loom_told g.H.Host m) (loom_told g.H.Host m) (quiet-same g.H.Host m) c.requires.fit.ready) c.requires.may.names c.in-Some.ensures.word) c.replace_field.ensures.minds
 
 pub returns-in-Some-word_in_body-clause-brings : goal.returns-in-Some-word_in_body-clause-brings
 returns-in-Some-word_in_body-clause-brings g c = brings-none c.args.self.now c.replace_field.new.self _ c.replace_field.ensures.resting.idle.fetches
+
+pub returns-in-Some-word_in_body-clause-gone : goal.returns-in-Some-word_in_body-clause-gone
+returns-in-Some-word_in_body-clause-gone g c = done-here {T = Unit {0}} (Ok tt) g.H.Host c.args.self.now c.replace_field.new.self (name_at ((loom_told g.H.Host c.args.self.now).regs c.args.of)) (SetField c.args.of c.args.i c.args.from) c.in-Some.ensures.there

@@ -1,28 +1,30 @@
 use Rattle.std.proofs.Common.{◌≡◌, refl, ◌∙◌}
 use Rattle.long_names.specs.Access.{SetField, Nothing}
 use Rattle.loom_memory.specs.Memory.{loom_told}
-use Rattle.loom_memory.proofs.AccessLaws.{refused-is, quiet-ready}
-use Rattle.loom_memory.proofs.LastLaws.{can-still}
-use Rattle.loom_memory.proofs.StoreLaws.{store-last, store-ready}
+use Rattle.loom_memory.proofs.AccessLaws.{refused-is}
+use Rattle.loom_memory.proofs.MakingLaws.{thinned-ready}
+use Rattle.loom_memory.proofs.FreedLaws.{can-freed}
+use Rattle.loom_memory.proofs.ReachLaws.{done-by, store-freed, stored-heap}
+use Rattle.loom_memory.proofs.StoreLaws.{store-ready}
 use Rattle.long_names.specs.State.{name_at}
 use Rattle.loom_memory.proofs.GentleLaws.{then-change}
 use Rattle.loom_memory.proofs.KeepingLaws.{then-keeps}
 use Rattle.purger.specs.Purge.{HasRoom}
 use Rattle.loom_memory.specs.Damage.{words_read}
-use Rattle.loom_memory.proofs.DamageLaws.{quiet-damage}
+use Rattle.loom_memory.proofs.DamageLaws.{thinned-damage}
 use Rattle.loom_memory.proofs.MindLaws.{minds-found}
 use Rattle.loom_memory.proofs.OneLaws.{brings-then}
 use Rattle.loom_memory.proofs.memory.LoomMemory.set_field_on_disk.Goals as goal
 
 pub store_field-requires-clause-ready : goal.store_field-requires-clause-ready
-store_field-requires-clause-ready g c = quiet-ready (loom_told g.H.Host c.args.self.now) (loom_told g.H.Host c.open_with_room.new.self) c.in-Ok.ensures.quiet c.requires.fit.ready
+store_field-requires-clause-ready g c = thinned-ready (loom_told g.H.Host c.args.self.now) (loom_told g.H.Host c.open_with_room.new.self) c.in-Ok.ensures.thinned c.requires.fit.ready
 
 pub store_field-requires-clause-may : goal.store_field-requires-clause-may
 unfolding loom_told
-store_field-requires-clause-may g c = λ told. can-still (loom_told g.H.Host c.args.self.now) (loom_told g.H.Host c.open_with_room.new.self) (SetField c.args.of c.args.i c.args.from) c.in-Ok.ensures.quiet (c.requires.may.heap told)
+store_field-requires-clause-may g c = λ told. can-freed (loom_told g.H.Host c.args.self.now) (loom_told g.H.Host c.open_with_room.new.self) (SetField c.args.of c.args.i c.args.from) c.args.of refl c.in-Ok.ensures.thinned c.requires.may.heap told
 
 pub returns-in-Ok-clause-access : goal.returns-in-Ok-clause-access
-returns-in-Ok-clause-access g c = store-last c.store_field.result (loom_told g.H.Host c.args.self.now) (loom_told g.H.Host c.open_with_room.new.self) (loom_told g.H.Host c.store_field.new.self) (SetField c.args.of c.args.i c.args.from) refl tt refl c.in-Ok.ensures.quiet c.store_field.ensures.stored c.store_field.ensures.err (c.in-Ok.ensures.core (SetField c.args.of c.args.i c.args.from) refl refl)
+returns-in-Ok-clause-access g c = store-freed c.store_field.result (loom_told g.H.Host c.args.self.now) (loom_told g.H.Host c.open_with_room.new.self) (loom_told g.H.Host c.store_field.new.self) (SetField c.args.of c.args.i c.args.from) c.args.of refl tt refl refl c.in-Ok.ensures.thinned c.store_field.ensures.stored c.store_field.ensures.err (c.in-Ok.ensures.core (SetField c.args.of c.args.i c.args.from) refl refl)
 
 pub returns-in-Err-clause-access : goal.returns-in-Err-clause-access
 returns-in-Err-clause-access g c = refused-is (loom_told g.H.Host c.args.self.now) (loom_told g.H.Host c.open_with_room.new.self) (SetField c.args.of c.args.i c.args.from) (λ _. Nothing) c.in-Err.f (c.in-Err.ensures.err (SetField c.args.of c.args.i c.args.from) refl refl tt)
@@ -30,7 +32,7 @@ returns-in-Err-clause-access g c = refused-is (loom_told g.H.Host c.args.self.no
 pub returns-in-Ok-clause-fit : goal.returns-in-Ok-clause-fit
 returns-in-Ok-clause-fit g c = record {
   sound = c.store_field.ensures.sound;
-  ready = store-ready c.store_field.result (loom_told g.H.Host c.open_with_room.new.self) (loom_told g.H.Host c.store_field.new.self) (SetField c.args.of c.args.i c.args.from) refl (quiet-ready (loom_told g.H.Host c.args.self.now) (loom_told g.H.Host c.open_with_room.new.self) c.in-Ok.ensures.quiet c.requires.fit.ready) c.store_field.ensures.stored;
+  ready = store-ready c.store_field.result (loom_told g.H.Host c.open_with_room.new.self) (loom_told g.H.Host c.store_field.new.self) (SetField c.args.of c.args.i c.args.from) refl (thinned-ready (loom_told g.H.Host c.args.self.now) (loom_told g.H.Host c.open_with_room.new.self) c.in-Ok.ensures.thinned c.requires.fit.ready) c.store_field.ensures.stored;
   lender = c.store_field.ensures.lender ∙ c.in-Ok.ensures.lender;
   outside = c.store_field.ensures.outside ∙ c.in-Ok.ensures.outside;
 }
@@ -46,7 +48,7 @@ returns-in-Ok-clause-cached g c = then-keeps c.store_field.result g.H.Host c.arg
 pub returns-in-Ok-clause-damage : goal.returns-in-Ok-clause-damage
 returns-in-Ok-clause-damage g c =
     let m = c.args.self.now in
-    quiet-damage c.store_field.result g.H.Host m c.open_with_room.new.self c.args.of c.in-Ok.s.0 c.store_field.new.self.disk.rest (HasRoom m.parts (words_read c.store_field.new.self) 27) c.in-Ok.ensures.sound c.in-Ok.ensures.quiet c.requires.may.names c.in-Ok.ensures.word c.store_field.ensures.damage
+    thinned-damage c.store_field.result g.H.Host m c.open_with_room.new.self c.args.of c.in-Ok.s.0 c.store_field.new.self.disk.rest (HasRoom m.parts (words_read c.store_field.new.self) 27) c.in-Ok.ensures.sound c.in-Ok.ensures.thinned c.requires.may.names c.in-Ok.ensures.word c.store_field.ensures.damage
 
 pub returns-in-Ok-clause-minds : goal.returns-in-Ok-clause-minds
 returns-in-Ok-clause-minds g c =
@@ -55,3 +57,6 @@ returns-in-Ok-clause-minds g c =
 
 pub returns-in-Ok-clause-brings : goal.returns-in-Ok-clause-brings
 returns-in-Ok-clause-brings g c = brings-then c.args.self.now c.open_with_room.new.self c.store_field.new.self _ c.open_with_room.ensures.brings c.store_field.ensures.brings
+
+pub returns-in-Ok-clause-gone : goal.returns-in-Ok-clause-gone
+returns-in-Ok-clause-gone g c = done-by c.store_field.result g.H.Host c.args.self.now c.open_with_room.new.self c.store_field.new.self (name_at ((loom_told g.H.Host c.args.self.now).regs c.args.of)) (SetField c.args.of c.args.i c.args.from) c.in-Ok.ensures.thinned c.in-Ok.ensures.freed (stored-heap c.store_field.result g.H.Host c.open_with_room.new.self c.store_field.new.self (SetField c.args.of c.args.i c.args.from) c.store_field.ensures.stored)

@@ -58,6 +58,9 @@ returns-then-is_settled-clause-minds g c = λ told. minds-anew g.H.Host c.args.s
 pub returns-then-is_settled-clause-rests : goal.returns-then-is_settled-clause-rests
 returns-then-is_settled-clause-rests g c = λ room enough. has-rested g c
 
+pub returns-then-is_settled-clause-gone : goal.returns-then-is_settled-clause-gone
+returns-then-is_settled-clause-gone g c = λ room lacks due. absurd (lacks (omega arith, (c.is_settled.ensures.yes c.if-is_settled.true).1))
+
 pub returns-then-is_settled-clause-fit : goal.returns-then-is_settled-clause-fit
 unfolding loom_outside
 returns-then-is_settled-clause-fit g c = record {
@@ -77,3 +80,9 @@ returns-clause-cached g c = λ room enough. absurd (c.is_settled.ensures.no c.if
 
 pub returns-clause-rests : goal.returns-clause-rests
 returns-clause-rests g c = λ room enough. absurd (c.is_settled.ensures.no c.if-is_settled.false room enough)
+
+pub returns-then-is_settled-clause-thins : goal.returns-then-is_settled-clause-thins
+returns-then-is_settled-clause-thins g c = λ less. absurd (let enough = (c.is_settled.ensures.yes c.if-is_settled.true).0 in omega (arith, less, enough))
+
+pub returns-then-is_settled-clause-lasts : goal.returns-then-is_settled-clause-lasts
+returns-then-is_settled-clause-lasts g c = λ less. absurd (let enough = (c.is_settled.ensures.yes c.if-is_settled.true).0 in omega (arith, less, enough))

@@ -6,6 +6,7 @@ use Rattle.loom_memory.specs.declared.ledger.Ledger.{Ledger}
 use Rattle.loom_memory.specs.Memory.{loom_told, loom_outside, others_of}
 use Rattle.loom_memory.specs.Residents.{fetched}
 use Rattle.loom_host.specs.declared.outside.Role.TheVariants.{Work}
+use Rattle.loom_memory.proofs.FirstRoomLaws.{alive-anew}
 use Rattle.loom_memory.proofs.MindLaws.{minds-anew}
 use Rattle.loom_memory.proofs.SettleLaws.{anew-rested, bodies-anew, numbers-none, settled-thin}
 use Rattle.loom_memory.proofs.memory.LoomMemory.settle_roomy.Goals as goal
@@ -40,3 +41,6 @@ returns-in-Err-clause-rests g c = λ enough. absurd (c.in-Err.ensures.sure (omeg
 pub returns-in-Ok-clause-outside : goal.returns-in-Ok-clause-outside
 unfolding loom_outside
 returns-in-Ok-clause-outside g c = ap (λ d. (λ r. others_of (g.H.Host.tells Work) r (g.H.Host.roles d.host.now r) (g.H.Host.faults d.host.now r))) c.count_anew.ensures.disk ∙ c.free_first.ensures.outside
+
+pub returns-in-Ok-clause-gone : goal.returns-in-Ok-clause-gone
+returns-in-Ok-clause-gone g c = λ lacks due. alive-anew (loom_told g.H.Host c.free_first.new.self) (loom_told g.H.Host c.count_anew.new.self) None c.count_anew.ensures.begun (c.in-Ok.ensures.gone lacks due)

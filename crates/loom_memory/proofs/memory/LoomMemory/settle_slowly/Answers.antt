@@ -1,8 +1,10 @@
 use Rattle.std.proofs.Common.{IsTrue, ◌∙◌}
 use Rattle.loom_host.specs.declared.outside.Role.TheVariants.{Work}
 use Rattle.loom_memory.specs.Memory.{loom_told}
-use Rattle.loom_memory.proofs.SettleLaws.{rested-whole, settle-fetches, settle-last, settle-now, settle-stays, settled-ready}
+use Rattle.loom_memory.proofs.SettleLaws.{rested-whole, settle-last, settle-now, settle-stays, settled-ready}
+use Rattle.loom_memory.proofs.FirstRoomLaws.{gone-settled}
 use Rattle.loom_memory.proofs.MindLaws.{minds-told}
+use Rattle.loom_memory.proofs.LivingLaws.{lasted-last, ok-of}
 use Rattle.loom_memory.proofs.memory.LoomMemory.settle_slowly.Goals as goal
 
 pub spare_entries-requires-clause-ready : goal.spare_entries-requires-clause-ready
@@ -20,7 +22,7 @@ returns-in-Ok-clause-fit g c = record {
 }
 
 pub returns-in-Ok-clause-fetches : goal.returns-in-Ok-clause-fetches
-returns-in-Ok-clause-fetches g c = settle-fetches c.spare_entries.result c.args.self.now c.settle_disk.new.self c.spare_entries.new.self c.in-Ok.ensures.fetches c.spare_entries.ensures.ledger
+returns-in-Ok-clause-fetches g c = c.spare_entries.ensures.fetches ∙ c.settle_disk.ensures.fetches
 
 pub returns-in-Ok-clause-stays : goal.returns-in-Ok-clause-stays
 returns-in-Ok-clause-stays g c = settle-stays c.spare_entries.result g.H.Host c.args.self.now c.settle_disk.new.self c.spare_entries.new.self c.requires.fit.sound.kept.parts.core c.in-Ok.ensures.sound.kept.parts.core c.in-Ok.ensures.entries c.in-Ok.ensures.bodies c.spare_entries.ensures.stays
@@ -30,3 +32,15 @@ returns-in-Ok-clause-whole g c = λ room enough. rested-whole c.spare_entries.re
 
 pub returns-in-Ok-clause-minds : goal.returns-in-Ok-clause-minds
 returns-in-Ok-clause-minds g c = minds-told c.spare_entries.result (IsTrue (g.H.Host.tells Work)) g.H.Host c.args.self.now c.settle_disk.new.self c.spare_entries.new.self (λ k. ⊥) c.in-Ok.ensures.minds c.spare_entries.ensures.minds
+
+pub returns-in-Ok-clause-gone : goal.returns-in-Ok-clause-gone
+returns-in-Ok-clause-gone g c = gone-settled c.spare_entries.result g.H.Host c.args.self.now c.settle_disk.new.self c.spare_entries.new.self 0 128 c.in-Ok.ensures.gone c.spare_entries.ensures.quiet
+
+pub returns-in-Ok-clause-thins : goal.returns-in-Ok-clause-thins
+returns-in-Ok-clause-thins g c = λ full. ok-of c.spare_entries.result (c.spare_entries.ensures.thinned ∙ c.in-Ok.ensures.thins full)
+
+pub returns-in-Ok-clause-lasts : goal.returns-in-Ok-clause-lasts
+returns-in-Ok-clause-lasts g c = λ full on enough. lasted-last c.spare_entries.result c.args.self.now c.settle_disk.new.self c.spare_entries.new.self enough (c.in-Ok.ensures.lasts full on).same c.spare_entries.ensures.stays c.spare_entries.ensures.sure
+
+pub returns-in-Err-clause-lasts : goal.returns-in-Err-clause-lasts
+returns-in-Err-clause-lasts g c = λ full on enough. c.in-Err.ensures.lasts full on

@@ -7,6 +7,7 @@ use Rattle.purger.specs.Purge.{OnShort, OnDisk, IsShort, IsPurgeFault}
 use Rattle.loom_memory.specs.Memory.{loom_told}
 use Rattle.loom_memory.proofs.AddLaws.{fault-settling}
 use Rattle.loom_memory.proofs.MindLaws.{minds-refl}
+use Rattle.std.proofs.Common.{◌∙◌}
 use Rattle.loom_memory.proofs.memory.LoomMemory.spare_entries.Goals as goal
 
 pub returns-in-Disk-clause-err : goal.returns-in-Disk-clause-err
@@ -36,3 +37,24 @@ returns-in-Short-clause-stays g c = λ enough. absurd (c.has_room.ensures.lacks 
 
 pub returns-then-has_room-clause-minds : goal.returns-then-has_room-clause-minds
 returns-then-has_room-clause-minds g c = minds-refl g.H.Host c.args.self.now (λ k. ⊥) c.requires.sound
+
+pub returns-in-Disk-clause-sure : goal.returns-in-Disk-clause-sure
+returns-in-Disk-clause-sure g c = λ enough. absurd (c.has_room.ensures.lacks c.if-has_room.false (omega arith, enough))
+
+pub returns-in-Ok-clause-thinned : goal.returns-in-Ok-clause-thinned
+returns-in-Ok-clause-thinned g c = c.room.ensures.thinned
+
+pub returns-in-Short-clause-thinned : goal.returns-in-Short-clause-thinned
+returns-in-Short-clause-thinned g c = c.room.ensures.thinned
+
+pub returns-in-Disk-clause-thinned : goal.returns-in-Disk-clause-thinned
+returns-in-Disk-clause-thinned g c = c.refuse.ensures.thinned ∙ c.room.ensures.thinned
+
+pub returns-in-Disk-clause-fetches : goal.returns-in-Disk-clause-fetches
+returns-in-Disk-clause-fetches g c = c.refuse.ensures.brings ∙ c.room.ensures.brings
+
+pub returns-in-Ok-clause-fetches : goal.returns-in-Ok-clause-fetches
+returns-in-Ok-clause-fetches g c = c.room.ensures.brings
+
+pub returns-in-Short-clause-fetches : goal.returns-in-Short-clause-fetches
+returns-in-Short-clause-fetches g c = c.room.ensures.brings

@@ -16,7 +16,7 @@ use Rattle.leaf_lambda.specs.Making.{HasBytes}
 use Rattle.loom_memory.specs.Memory.{loom_told, loom_outside}
 use Rattle.loom_memory.proofs.FieldLaws.{told-bounds, damaged-refused}
 use Rattle.loom_memory.proofs.StoreLaws.{stored-kept, stored-over, bytes-fields, bytes-can, body-told, stored-is}
-use Rattle.loom_memory.proofs.OwingLaws.{exact-rewritten}
+use Rattle.loom_memory.proofs.OwingLaws.{IsRewritten, exact-rewritten}
 use Rattle.loom_memory.proofs.GentleLaws.{rest-refl, store-remains}
 use Rattle.purger.proofs.MarkLaws.{within-marks}
 use Rattle.loom_memory.proofs.MindLaws.{marks-keep}
@@ -25,52 +25,28 @@ use Rattle.object_memory.specs.declared.fault.MemFault.TheVariants.{Damaged}
 use Rattle.loom_memory.proofs.DamageLaws.{nowhere-damage}
 use Rattle.loom_memory.proofs.MindLaws.{came-remains, stored-came}
 use Rattle.loom_memory.specs.Residents.{fetched}
+use Rattle.loom_memory.proofs.LivingLaws.{thin-rewritten}
+use Rattle.object_memory.specs.Told.{Told}
 use Rattle.loom_memory.proofs.memory.LoomMemory.store_byte.Goals as goal
 use Rattle.loom_memory.proofs.memory.LoomMemory.store_byte.Given as given
 
-pub entry-e-requires-clause-short : goal.entry-e-requires-clause-short
-entry-e-requires-clause-short g c = c.requires.sound.kept.parts.core.short c.args.s.0 (placed-used ((core_of c.args.self.now.parts).entries c.args.s.0).state c.requires.there.0 c.requires.there.1)
-
-pub entry-e-requires-clause-within : goal.entry-e-requires-clause-within
+pub used_entry-e-requires : goal.used_entry-e-requires
 unfolding core_of
-entry-e-requires-clause-within g c = c.requires.sound.kept.parts.core.within c.args.s.0 (placed-used ((core_of c.args.self.now.parts).entries c.args.s.0).state c.requires.there.0 c.requires.there.1)
+used_entry-e-requires g c = placed-used ((core_of c.args.self.now.parts).entries c.args.s.0).state c.requires.there.0 c.requires.there.1
 
 pub put_byte-requires-clause-kind : goal.put_byte-requires-clause-kind
 unfolding core_of
-put_byte-requires-clause-kind g c = subst (λ (k : Kind). HasBytes k) (ap (λ (e : Entry). e.kind) c.entry-e.ensures) (c.has_byte-fits.ensures.yes c.if-fits.true).0
+put_byte-requires-clause-kind g c = subst (λ (k : Kind). HasBytes k) (ap (λ (e : Entry). e.kind) c.used_entry-e.ensures) (c.has_byte-fits.ensures.yes c.if-fits.true).0
 
 pub put_byte-requires-clause-within : goal.put_byte-requires-clause-within
 unfolding core_of
-put_byte-requires-clause-within g c = let low = (c.has_byte-fits.ensures.yes c.if-fits.true).1 in let same = ap (λ (e : Entry). e.len) c.entry-e.ensures in omega (arith, low, same)
+put_byte-requires-clause-within g c = let low = (c.has_byte-fits.ensures.yes c.if-fits.true).1 in let same = ap (λ (e : Entry). e.len) c.used_entry-e.ensures in omega (arith, low, same)
 
 place-same : (g : given.Over) (c : goal.After-put_byte g) → place_of ((core_of c.put_byte.new.p).entries c.args.s.0).state ≡ place_of ((core_of c.args.self.now.parts).entries c.args.s.0).state
 place-same g c = ap (λ (e : Entry). place_of e.state) c.put_byte.ensures.entry
 
 name-same : (g : given.Over) (c : goal.After-put_byte g) → ((core_of c.put_byte.new.p).entries c.args.s.0).name ≡ ((core_of c.args.self.now.parts).entries c.args.s.0).name
 name-same g c = ap (λ (e : Entry). e.name) c.put_byte.ensures.entry
-
-pub returns-then-fits-clause-sound : goal.returns-then-fits-clause-sound
-returns-then-fits-clause-sound g c =
-    let m = c.args.self.now in
-    let p = c.place_of_body-place.result.place in
-    let disk = disk_of g.H.Host m.disk.host.now m.disk.rest in
-    let core = c.requires.sound.kept.parts.core in
-    let o = object_at (core_of m.parts) disk ((core_of m.parts).entries c.args.s.0) p in
-    record {
-      kept = stored-kept m.parts c.put_byte.new.p m.regs m.pinned m.ledger c.args.s.0 p c.requires.sound.kept c.put_byte.ensures.parts c.put_byte.ensures.within c.place_of_body-place.ensures (place-same g c) (name-same g c) c.put_byte.ensures.size;
-      over = stored-over g.H.Host m.disk.host.now m.disk.rest (core_of m.parts) (core_of c.put_byte.new.p) m.ledger c.args.s.0 c.requires.sound.over c.put_byte.ensures.within (ap fresh_by c.put_byte.ensures.entry) c.put_byte.ensures.backed c.put_byte.ensures.valued;
-      exact = exact-rewritten g.H.Host m.parts c.put_byte.new.p m.disk.host.now m.disk.rest m.ledger.next c.args.s.0 p (with_bytes o.body c.args.i (c.args.b ∷ [])) c.requires.sound.exact (λ told. record {
-        core = c.put_byte.ensures.parts.core;
-        backed = c.put_byte.ensures.backed disk (c.requires.sound.over.backed told);
-        place = c.place_of_body-place.ensures;
-        fields = bytes-fields o.body c.args.i (c.args.b ∷ []);
-        stored = c.put_byte.ensures.held disk o (c.requires.sound.over.backed told)
-            (held-at (core_of m.parts) disk ((core_of m.parts).entries c.args.s.0).name c.args.s.0 p (core.found c.args.s.0 (placed-used ((core_of m.parts).entries c.args.s.0).state p c.place_of_body-place.ensures)) c.place_of_body-place.ensures);
-        valued = c.put_byte.ensures.valued disk (c.requires.sound.over.backed told) (c.requires.sound.over.valued told);
-        find = c.put_byte.ensures.find;
-        changes = c.put_byte.ensures.within.changes;
-      });
-    }
 
 pub returns-then-fits-clause-outside : goal.returns-then-fits-clause-outside
 unfolding loom_outside
@@ -92,16 +68,50 @@ returns-then-fits-clause-stored g c =
     there
     (c.put_byte.ensures.held disk (object_at (core_of m.parts) disk ((core_of m.parts).entries c.args.s.0) p) (c.requires.sound.over.backed told) there))
 
+rewritten-of : (g : given.Over) (c : goal.After-put_byte g) → IsTrue (g.H.Host.tells Work) → IsRewritten (core_of c.args.self.now.parts) (core_of c.put_byte.new.p) (disk_of g.H.Host c.args.self.now.disk.host.now c.args.self.now.disk.rest) c.args.s.0 c.place_of_body-place.result.place (with_bytes (object_at (core_of c.args.self.now.parts) (disk_of g.H.Host c.args.self.now.disk.host.now c.args.self.now.disk.rest) ((core_of c.args.self.now.parts).entries c.args.s.0) c.place_of_body-place.result.place).body c.args.i (c.args.b ∷ []))
+rewritten-of g c told =
+    let m = c.args.self.now in
+    let p = c.place_of_body-place.result.place in
+    let disk = disk_of g.H.Host m.disk.host.now m.disk.rest in
+    let core = c.requires.sound.kept.parts.core in
+    let o = object_at (core_of m.parts) disk ((core_of m.parts).entries c.args.s.0) p in
+    record {
+      core = c.put_byte.ensures.parts.core;
+      backed = c.put_byte.ensures.backed disk (c.requires.sound.over.backed told);
+      place = c.place_of_body-place.ensures;
+      fields = bytes-fields o.body c.args.i (c.args.b ∷ []);
+      stored = c.put_byte.ensures.held disk o (c.requires.sound.over.backed told)
+          (held-at (core_of m.parts) disk ((core_of m.parts).entries c.args.s.0).name c.args.s.0 p (core.found c.args.s.0 (placed-used ((core_of m.parts).entries c.args.s.0).state p c.place_of_body-place.ensures)) c.place_of_body-place.ensures);
+      valued = c.put_byte.ensures.valued disk (c.requires.sound.over.backed told) (c.requires.sound.over.valued told);
+      find = c.put_byte.ensures.find;
+      changes = c.put_byte.ensures.within.changes;
+    }
+
+pub returns-then-fits-clause-sound : goal.returns-then-fits-clause-sound
+returns-then-fits-clause-sound g c =
+    let m = c.args.self.now in
+    let p = c.place_of_body-place.result.place in
+    let disk = disk_of g.H.Host m.disk.host.now m.disk.rest in
+    let core = c.requires.sound.kept.parts.core in
+    let o = object_at (core_of m.parts) disk ((core_of m.parts).entries c.args.s.0) p in
+    record {
+      kept = stored-kept m.parts c.put_byte.new.p m.regs m.pinned m.ledger c.args.s.0 p c.requires.sound.kept c.put_byte.ensures.parts c.put_byte.ensures.within c.place_of_body-place.ensures (place-same g c) (name-same g c) c.put_byte.ensures.size;
+      over = stored-over g.H.Host m.disk.host.now m.disk.rest (core_of m.parts) (core_of c.put_byte.new.p) m.ledger c.args.s.0 c.requires.sound.over c.put_byte.ensures.within (ap fresh_by c.put_byte.ensures.entry) c.put_byte.ensures.backed c.put_byte.ensures.valued;
+      exact = exact-rewritten g.H.Host m.parts c.put_byte.new.p m.disk.host.now m.disk.rest m.ledger.next c.args.s.0 p (with_bytes o.body c.args.i (c.args.b ∷ [])) c.requires.sound.exact (rewritten-of g c);
+      soon = c.requires.sound.soon;
+      thin = thin-rewritten g.H.Host m c.put_byte.new.p c.args.s.0 p (with_bytes o.body c.args.i (c.args.b ∷ [])) c.requires.sound (ap (λ (t : Told). t.regs) (returns-then-fits-clause-stored g c).same) (ap (λ (t : Told). t.slots) (returns-then-fits-clause-stored g c).same) (rewritten-of g c);
+    }
+
 none-there : (g : given.Over) (c : goal.After-refuse g) → IsTrue (loom_told g.H.Host c.args.self.now).tells → ⊥
 unfolding loom_told core_of
 none-there g c = λ told.
     let m = c.args.self.now in
     let can = bytes-can (g.H.Host.tells Work) (core_of m.parts) (disk_of g.H.Host m.disk.host.now m.disk.rest) m.ledger.next c.args.s.0 c.requires.there.0 c.args.i _ told c.requires.sound.kept.parts.core c.requires.there.1 (ap (meant (core_of m.parts).entries [] 0) (sym c.requires.word)) (c.requires.may told) in
-    let e = c.entry-e.ensures in
-    let kind_ : HasBytes c.entry-e.result.kind = subst (λ (k : Kind). HasBytes k) (ap (λ (e : Entry). e.kind) (sym c.entry-e.ensures)) can.0 in
+    let e = c.used_entry-e.ensures in
+    let kind_ : HasBytes c.used_entry-e.result.kind = subst (λ (k : Kind). HasBytes k) (ap (λ (e : Entry). e.kind) (sym c.used_entry-e.ensures)) can.0 in
     let past = c.has_byte-fits.ensures.no c.if-fits.false kind_ in
     let low = can.1 in
-    let same = ap (λ (e : Entry). e.len) c.entry-e.ensures in
+    let same = ap (λ (e : Entry). e.len) c.used_entry-e.ensures in
     omega (arith, past, low, same)
 
 pub returns-clause-err : goal.returns-clause-err
@@ -122,7 +132,7 @@ returns-then-fits-clause-cached g c =
 
 pub returns-clause-damage : goal.returns-clause-damage
 unfolding core_of
-returns-clause-damage g c = nowhere-damage c.refuse.new.self.disk.rest ((core_of c.args.self.now.parts).entries c.args.s.0).name c.refuse.result (c.refuse.ensures.result ∙ ap (Damaged NOWHERE) (c.get.ensures.value ∙ ap (λ (e : Entry). e.name) c.entry-e.ensures))
+returns-clause-damage g c = nowhere-damage c.refuse.new.self.disk.rest ((core_of c.args.self.now.parts).entries c.args.s.0).name c.refuse.result (c.refuse.ensures.result ∙ ap (Damaged NOWHERE) (c.get.ensures.value ∙ ap (λ (e : Entry). e.name) c.used_entry-e.ensures))
 
 pub returns-then-fits-clause-none : goal.returns-then-fits-clause-none
 returns-then-fits-clause-none g c =

@@ -18,12 +18,9 @@ use Rattle.loom_memory.proofs.DamageLaws.{nowhere-damage}
 use Rattle.loom_memory.proofs.memory.LoomMemory.store_field.Goals as goal
 use Rattle.loom_memory.proofs.memory.LoomMemory.store_field.Given as given
 
-pub entry-requires-clause-short : goal.entry-requires-clause-short
-entry-requires-clause-short g c = c.requires.sound.kept.parts.core.short c.args.s.0 (placed-used ((core_of c.args.self.now.parts).entries c.args.s.0).state c.requires.there.0 c.requires.there.1)
-
-pub entry-requires-clause-within : goal.entry-requires-clause-within
+pub used_entry-requires : goal.used_entry-requires
 unfolding core_of
-entry-requires-clause-within g c = c.requires.sound.kept.parts.core.within c.args.s.0 (placed-used ((core_of c.args.self.now.parts).entries c.args.s.0).state c.requires.there.0 c.requires.there.1)
+used_entry-requires g c = placed-used ((core_of c.args.self.now.parts).entries c.args.s.0).state c.requires.there.0 c.requires.there.1
 
 none-there : (g : given.Over) (c : goal.After-refuse g) → IsTrue (loom_told g.H.Host c.args.self.now).tells → ⊥
 unfolding loom_told
@@ -89,7 +86,7 @@ returns-clause-cached g c = c.exchange_field-2.ensures.cached
 
 pub returns-then-i-field_total-clause-damage : goal.returns-then-i-field_total-clause-damage
 unfolding core_of
-returns-then-i-field_total-clause-damage g c = nowhere-damage c.refuse.new.self.disk.rest ((core_of c.args.self.now.parts).entries c.args.s.0).name c.refuse.result (c.refuse.ensures.result ∙ ap (Damaged NOWHERE) (c.get-name.ensures.value ∙ ap (λ (e : Entry). e.name) c.entry.ensures))
+returns-then-i-field_total-clause-damage g c = nowhere-damage c.refuse.new.self.disk.rest ((core_of c.args.self.now.parts).entries c.args.s.0).name c.refuse.result (c.refuse.ensures.result ∙ ap (Damaged NOWHERE) (c.get-name.ensures.value ∙ ap (λ (e : Entry). e.name) c.used_entry.ensures))
 
 pub returns-in-Ok-clause-none : goal.returns-in-Ok-clause-none
 returns-in-Ok-clause-none g c = remains-trans (core_of c.exchange_field.new.self.parts) (core_of c.lambda_word.new.self.parts) (core_of c.args.self.now.parts) c.exchange_field.ensures.none c.in-Ok.ensures.peek.none

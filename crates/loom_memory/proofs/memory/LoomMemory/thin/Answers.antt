@@ -1,12 +1,18 @@
-use Rattle.std.proofs.Common.{◌∙◌, refl, sym, subst, arith}
+use Rattle.std.proofs.Common.{ℕ, ◌+◌, ◌≤◌, ◌/◌, ◌∙◌, refl, sym, subst, arith}
 use Rattle.loom_memory.specs.Memory.{loom_told, loom_outside}
 use Rattle.loom_memory.proofs.AddLaws.{fault-lost, fault-making, fault-settling}
 use Rattle.loom_memory.proofs.CalmLaws.{work-outside}
-use Rattle.loom_memory.proofs.ThinLaws.{fault-purge, thin-again, thin-bodies, thin-count, thin-exact, thin-is-kept, thin-kept, thin-over, thin-step, thin-told}
+use Rattle.loom_memory.proofs.CallLaws.{purge-refused}
+use Rattle.loom_memory.proofs.RegLaws.{kept-rooted}
+use Rattle.loom_memory.proofs.ThinLaws.{thin-calm, fault-purge, thin-again, thin-nothing, thin-bodies, thin-count, thin-exact, thin-is-kept, thin-kept, thin-over, thin-step, thin-told}
 use Rattle.object_memory.specs.declared.fault.MemFault.{MemFault}
+use Rattle.loom_memory.specs.Residents.{fetched}
 use Rattle.loom_memory.specs.Makings.{IsLost}
 use Rattle.loom_memory.proofs.EndLaws.{thins-refused}
 use Rattle.loom_memory.proofs.MindLaws.{minds-left}
+use Rattle.loom_memory.specs.Thinned.{is_thinned}
+use Rattle.loom_memory.proofs.DeadLaws.{thin-is}
+use Rattle.loom_memory.specs.Residents.{fetched}
 use Rattle.loom_memory.proofs.memory.LoomMemory.thin.Goals as goal
 
 pub returns-in-Ok-clause-thinned : goal.returns-in-Ok-clause-thinned
@@ -31,14 +37,18 @@ returns-in-Ok-clause-again g c = let m = c.args.self.now in λ told.
     thin-again g.H.Host m.parts c.drain.new.p m.disk.host.now c.drain.new.disk.host.now m.disk.rest c.drain.new.disk.rest m.regs m.pinned m.ledger c.recount-held.result (thin-step g.H.Host m.parts c.drain.new.p m.disk.host.now c.drain.new.disk.host.now m.disk.rest c.drain.new.disk.rest m.regs m.pinned m.ledger c.requires.sound.kept c.requires.sound.exact c.in-Ok.ensures.leaves c.in-Ok.ensures.drained c.in-Ok.ensures.work c.in-Ok.ensures.limit) told
 
 pub returns-in-Ok-clause-sound : goal.returns-in-Ok-clause-sound
+unfolding loom_told
 returns-in-Ok-clause-sound g c =
     let m = c.args.self.now in
     let x = thin-exact g.H.Host m.parts c.drain.new.p m.disk.host.now c.drain.new.disk.host.now m.disk.rest c.drain.new.disk.rest m.ledger.next c.requires.sound.exact c.in-Ok.ensures.drained in
+    let kept = thin-kept g.H.Host m.parts c.drain.new.p m.disk.host.now c.drain.new.disk.host.now m.disk.rest c.drain.new.disk.rest m.regs m.pinned m.ledger c.recount-held.result (thin-step g.H.Host m.parts c.drain.new.p m.disk.host.now c.drain.new.disk.host.now m.disk.rest c.drain.new.disk.rest m.regs m.pinned m.ledger c.requires.sound.kept c.requires.sound.exact c.in-Ok.ensures.leaves c.in-Ok.ensures.drained c.in-Ok.ensures.work c.in-Ok.ensures.limit) in
     record {
-      kept = thin-kept g.H.Host m.parts c.drain.new.p m.disk.host.now c.drain.new.disk.host.now m.disk.rest c.drain.new.disk.rest m.regs m.pinned m.ledger c.recount-held.result (thin-step g.H.Host m.parts c.drain.new.p m.disk.host.now c.drain.new.disk.host.now m.disk.rest c.drain.new.disk.rest m.regs m.pinned m.ledger c.requires.sound.kept c.requires.sound.exact c.in-Ok.ensures.leaves c.in-Ok.ensures.drained c.in-Ok.ensures.work c.in-Ok.ensures.limit);
+      kept = kept;
       over = thin-over g.H.Host m.parts c.drain.new.p m.disk.host.now c.drain.new.disk.host.now m.disk.rest c.drain.new.disk.rest m.ledger c.recount-held.result c.requires.sound.over x c.in-Ok.ensures.limit c.recount-held.ensures.most
           (λ told. sym (c.recount-held.ensures.same (let less = c.in-Ok.ensures.counted told in let was = c.requires.sound.over.counted told in omega (arith, less, was))));
+      soon = subst (λ (n : ℕ). c.due_after-self.result ≤ m.ledger.next + n / 8) kept.entries c.due_after-self.ensures.soon;
       exact = x;
+      thin = thin-is g.H.Host _ (λ on. thin-nothing g.H.Host m.parts c.drain.new.p m.disk.host.now c.drain.new.disk.host.now m.disk.rest c.drain.new.disk.rest m.regs m.pinned m.ledger c.recount-held.result (thin-step g.H.Host m.parts c.drain.new.p m.disk.host.now c.drain.new.disk.host.now m.disk.rest c.drain.new.disk.rest m.regs m.pinned m.ledger c.requires.sound.kept c.requires.sound.exact c.in-Ok.ensures.leaves c.in-Ok.ensures.drained c.in-Ok.ensures.work c.in-Ok.ensures.limit));
     }
 
 pub returns-in-Ok-clause-outside : goal.returns-in-Ok-clause-outside
@@ -90,3 +100,25 @@ returns-in-Err-clause-purging g c =
     thins-refused g.H.Host m _ (loom_told g.H.Host c.refuse.new.self) c.in-Err.f c.refusal_of-f.result c.refuse.result refl c.in-Err.ensures.work c.in-Err.ensures.limit
     (fault-purge g.H.Host m.disk.host.now c.drain.new.disk.host.now c.in-Err.f c.in-Err.ensures.fault)
     c.refusal_of-f.ensures c.refuse.ensures.told c.refuse.ensures.result c.refuse.ensures.later
+
+pub returns-in-Ok-clause-calm : goal.returns-in-Ok-clause-calm
+returns-in-Ok-clause-calm g c = let m = c.args.self.now in thin-calm m.parts c.drain.new.p m.regs m.pinned (kept-rooted m.parts m.regs m.pinned m.ledger c.requires.sound.kept) c.in-Ok.ensures.leaves
+
+pub returns-in-Err-clause-access : goal.returns-in-Err-clause-access
+returns-in-Err-clause-access g c = λ a silent none.
+    let m = c.args.self.now in
+    purge-refused g.H.Host m _ (loom_told g.H.Host c.refuse.new.self) a c.in-Err.f c.refusal_of-f.result c.refuse.result refl c.in-Err.ensures.work c.in-Err.ensures.limit
+    (fault-purge g.H.Host m.disk.host.now c.drain.new.disk.host.now c.in-Err.f c.in-Err.ensures.fault)
+    c.refusal_of-f.ensures c.refuse.ensures.told c.refuse.ensures.result c.refuse.ensures.later silent none
+
+pub returns-in-Ok-clause-set : goal.returns-in-Ok-clause-set
+unfolding is_thinned
+returns-in-Ok-clause-set g c = refl
+
+pub returns-in-Ok-clause-fetches : goal.returns-in-Ok-clause-fetches
+unfolding fetched
+returns-in-Ok-clause-fetches g c = refl
+
+pub returns-in-Err-clause-fetches : goal.returns-in-Err-clause-fetches
+unfolding fetched
+returns-in-Err-clause-fetches g c = c.refuse.ensures.brings

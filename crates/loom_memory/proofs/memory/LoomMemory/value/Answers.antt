@@ -15,18 +15,15 @@ use Rattle.loom_memory.proofs.memory.LoomMemory.value.Given as given
 small-of : (g : given.Over) (c : goal.After-int_short g) → IsSmallInteger c.int_short.result
 small-of g c = subst IsSmallInteger (sym c.int_short.ensures) (odd-small c.word_of-w.result (omega arith))
 
-pub entry-requires-clause-short : goal.entry-requires-clause-short
-entry-requires-clause-short g c = sym c.is_name.ensures ∙ c.if-is_name.true
-
-pub entry-requires-clause-within : goal.entry-requires-clause-within
+pub used_entry-requires : goal.used_entry-requires
 unfolding core_of
-entry-requires-clause-within g c = c.requires.kept.parts.core.within c.word_of-w.result (c.word_of-w.ensures.used (sym c.is_name.ensures ∙ c.if-is_name.true))
+used_entry-requires g c = c.word_of-w.ensures.used (sym c.is_name.ensures ∙ c.if-is_name.true)
 
 pub returns-then-is_name-clause-value : goal.returns-then-is_name-clause-value
 unfolding loom_told core_of
 returns-then-is_name-clause-value g c =
     let m = c.args.self.now in
-    c.from.ensures.0 ∙ ap Ref (ap (λ (e : Entry). e.name) c.entry.ensures)
+    c.from.ensures.0 ∙ ap Ref (ap (λ (e : Entry). e.name) c.used_entry.ensures)
     ∙ sym (ap (meant (core_of m.parts).entries [] 0) (sym c.word_of-w.ensures.word) ∙ meant-short (core_of m.parts).entries [] 0 c.word_of-w.result (sym c.is_name.ensures ∙ c.if-is_name.true))
 
 pub returns-clause-value : goal.returns-clause-value

@@ -15,23 +15,23 @@ use Rattle.purger.proofs.RoomLaws.{some-of, none-of}
 use Rattle.loom_memory.proofs.DamageLaws.{full-damage}
 use Rattle.loom_memory.proofs.memory.LoomMemory.want.Goals as goal
 
-pub entry-requires-clause-within : goal.entry-requires-clause-within
+pub used_entry-requires : goal.used_entry-requires
 unfolding core_of
-entry-requires-clause-within g c = c.requires.sound.kept.parts.core.within c.args.s.0 c.requires.used
+used_entry-requires g c = c.requires.used
 
 pub full-requires-clause-sized : goal.full-requires-clause-sized
 unfolding loom_told core_of
 full-requires-clause-sized g c = λ told.
     let m = c.args.self.now in
     let there = some-of c.place.result c.is_some.result c.is_some.ensures c.if-is_some.true in
-    body-told (g.H.Host.tells Work) (core_of m.parts) (disk_of g.H.Host m.disk.host.now m.disk.rest) m.ledger.next c.args.s.0 there.0 told c.requires.sound.kept.parts.core (ap (λ (e : Entry). place_of e.state) (sym c.entry.ensures) ∙ sym c.place.ensures ∙ there.1) ∙ sym c.room_of-words.ensures.words
+    body-told (g.H.Host.tells Work) (core_of m.parts) (disk_of g.H.Host m.disk.host.now m.disk.rest) m.ledger.next c.args.s.0 there.0 told c.requires.sound.kept.parts.core (ap (λ (e : Entry). place_of e.state) (sym c.used_entry.ensures) ∙ sym c.place.ensures ∙ there.1) ∙ sym c.room_of-words.ensures.words
 
 pub full-requires-clause-unfit : goal.full-requires-clause-unfit
 full-requires-clause-unfit g c = λ need is. let m = c.args.self.now in unfit-spare m.parts m.regs m.pinned m.ledger c.args.s.0 c.room_of-words.result need c.requires.sound.kept c.requires.short c.entries_are_counted.ensures is
 
 pub look-requires-clause-leaf : goal.look-requires-clause-leaf
 unfolding core_of
-look-requires-clause-leaf g c = (c.requires.used, ap (λ (e : Entry). place_of e.state) (sym c.entry.ensures) ∙ sym c.place.ensures ∙ none-of c.place.result c.is_some.result c.is_some.ensures c.if-is_some.false)
+look-requires-clause-leaf g c = (c.requires.used, ap (λ (e : Entry). place_of e.state) (sym c.used_entry.ensures) ∙ sym c.place.ensures ∙ none-of c.place.result c.is_some.result c.is_some.ensures c.if-is_some.false)
 
 pub full-requires-in-Ok-clause-sized : goal.full-requires-in-Ok-clause-sized
 unfolding loom_told core_of
@@ -39,7 +39,7 @@ full-requires-in-Ok-clause-sized g c = λ told.
     let n = c.look.new.self in
     leaf-words (g.H.Host.tells Work) (core_of n.parts) (disk_of g.H.Host n.disk.host.now n.disk.rest) n.ledger.next c.args.s.0 c.in-Ok.words told c.in-Ok.ensures.sound.kept.parts.core
     (subst (λ (p : Parts). is_used ((core_of p).entries c.args.s.0).state ≡ true) (sym c.in-Ok.ensures.parts) c.requires.used)
-    (subst (λ (p : Parts). place_of ((core_of p).entries c.args.s.0).state ≡ None) (sym c.in-Ok.ensures.parts) (ap (λ (e : Entry). place_of e.state) (sym c.entry.ensures) ∙ sym c.place.ensures ∙ none-of c.place.result c.is_some.result c.is_some.ensures c.if-is_some.false)) c.in-Ok.ensures.sized
+    (subst (λ (p : Parts). place_of ((core_of p).entries c.args.s.0).state ≡ None) (sym c.in-Ok.ensures.parts) (ap (λ (e : Entry). place_of e.state) (sym c.used_entry.ensures) ∙ sym c.place.ensures ∙ none-of c.place.result c.is_some.result c.is_some.ensures c.if-is_some.false)) c.in-Ok.ensures.sized
 
 pub full-requires-in-Ok-clause-unfit : goal.full-requires-in-Ok-clause-unfit
 full-requires-in-Ok-clause-unfit g c = λ need is.

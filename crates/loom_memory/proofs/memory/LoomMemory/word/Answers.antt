@@ -9,10 +9,11 @@ use Rattle.core_view.proofs.Core.{placed-used}
 use Rattle.disk_objects.specs.Function.{disk_of}
 use Rattle.leaf_lambda.specs.Parts.{core_of}
 use Rattle.loom_memory.specs.Memory.{loom_told}
-use Rattle.loom_memory.proofs.AccessLaws.{quiet-ready, refused-is}
+use Rattle.loom_memory.proofs.AccessLaws.{refused-is}
+use Rattle.loom_memory.proofs.MakingLaws.{thinned-ready}
 use Rattle.loom_memory.proofs.FieldLaws.{told-tells}
-use Rattle.loom_memory.proofs.BodyLaws.{part-here, part-still, element-there}
-use Rattle.loom_memory.proofs.ReadLaws.{read-answered}
+use Rattle.loom_memory.proofs.BodyLaws.{part-here, element-there}
+use Rattle.loom_memory.proofs.ReachLaws.{amiss-freed, part-left, read-freed}
 use Rattle.long_names.specs.State.{name_at}
 use Rattle.loom_memory.proofs.GentleLaws.{amiss-sparing, sparing-ok, sparing-err}
 use Rattle.loom_memory.proofs.DamageLaws.{amiss-damage}
@@ -32,7 +33,7 @@ returns-in-Some-clause-access g c =
     let n = c.load.new.self in
     let there = c.in-Ok.ensures.loaded in
     let o = object_at (core_of n.parts) (disk_of g.H.Host n.disk.host.now n.disk.rest) ((core_of n.parts).entries c.in-Ok.s.0) there.at in
-    read-answered t (loom_told g.H.Host n) (Word c.args.of c.args.i) OfNumber c.in-Some.w refl c.in-Ok.ensures.quiet
+    read-freed t (loom_told g.H.Host n) (Word c.args.of c.args.i) c.args.of OfNumber c.in-Some.w refl refl refl c.in-Ok.ensures.thinned
     (λ told. ap (λ (x : Option ℕ). answered OfNumber x) (part-here (loom_told g.H.Host n) c.args.of o (λ (b : Body). option_and_then (λ xs. slice_get xs c.args.i) (words_of b)) (Some c.in-Some.w) (there.object (told-tells g.H.Host c.args.self.now told))
     (sym (sym c.in-Some.is ∙ c.word_at.ensures (disk_of g.H.Host n.disk.host.now n.disk.rest) there.at there.place))))
     (c.in-Ok.ensures.core (Word c.args.of c.args.i) refl refl)
@@ -44,14 +45,14 @@ untold g c told =
     let there = c.in-Ok.ensures.loaded in
     let o = object_at (core_of n.parts) (disk_of g.H.Host n.disk.host.now n.disk.rest) ((core_of n.parts).entries c.in-Ok.s.0) there.at in
     let can = c.requires.may.heap told in
-    element-there (words_of o.body) can.0 c.args.i (part-still t (loom_told g.H.Host n) c.args.of o words_of (Some can.0) c.in-Ok.ensures.quiet (there.object (told-tells g.H.Host c.args.self.now told)) can.1) can.2
+    element-there (words_of o.body) can.0 c.args.i (part-left t (loom_told g.H.Host n) c.args.of o words_of (Some can.0) c.in-Ok.ensures.thinned told (there.object (told-tells g.H.Host c.args.self.now told)) can.1) can.2
     (sym (c.word_at.ensures (disk_of g.H.Host n.disk.host.now n.disk.rest) there.at there.place) ∙ c.in-None.is)
 
 pub returns-in-None-clause-access : goal.returns-in-None-clause-access
 returns-in-None-clause-access g c =
     let t = loom_told g.H.Host c.args.self.now in
     refused-is t (loom_told g.H.Host c.amiss.new.self) (Word c.args.of c.args.i) OfNumber c.amiss.result
-    (c.amiss.ensures.err t (Word c.args.of c.args.i) c.in-Ok.ensures.quiet c.requires.fit.ready tt refl (untold g c))
+    (amiss-freed t (loom_told g.H.Host c.load.new.self) (loom_told g.H.Host c.amiss.new.self) (Word c.args.of c.args.i) c.args.of c.amiss.result refl refl tt c.in-Ok.ensures.thinned c.requires.fit.ready c.amiss.ensures.err (untold g c))
 
 pub returns-in-Err-clause-access : goal.returns-in-Err-clause-access
 returns-in-Err-clause-access g c = refused-is (loom_told g.H.Host c.args.self.now) (loom_told g.H.Host c.load.new.self) (Word c.args.of c.args.i) OfNumber c.in-Err.f (c.in-Err.ensures.err (Word c.args.of c.args.i) refl refl tt)
@@ -59,7 +60,7 @@ returns-in-Err-clause-access g c = refused-is (loom_told g.H.Host c.args.self.no
 pub returns-in-Some-clause-fit : goal.returns-in-Some-clause-fit
 returns-in-Some-clause-fit g c = record {
   sound = c.in-Ok.ensures.sound;
-  ready = quiet-ready (loom_told g.H.Host c.args.self.now) (loom_told g.H.Host c.load.new.self) c.in-Ok.ensures.quiet c.requires.fit.ready;
+  ready = thinned-ready (loom_told g.H.Host c.args.self.now) (loom_told g.H.Host c.load.new.self) c.in-Ok.ensures.thinned c.requires.fit.ready;
   lender = c.in-Ok.ensures.lender;
   outside = c.in-Ok.ensures.outside;
 }
@@ -74,7 +75,7 @@ pub returns-in-Err-clause-own : goal.returns-in-Err-clause-own
 returns-in-Err-clause-own g c = sparing-err g.H.Host c.args.self.now c.load.new.self (name_at ((loom_told g.H.Host c.args.self.now).regs c.args.of)) c.in-Err.f c.in-Err.ensures.own
 
 pub returns-in-None-clause-damage : goal.returns-in-None-clause-damage
-returns-in-None-clause-damage g c = λ room. amiss-damage g.H.Host c.args.self.now c.load.new.self c.args.of c.in-Ok.s.0 c.amiss.new.self.disk.rest c.amiss.result c.in-Ok.ensures.sound c.in-Ok.ensures.quiet c.requires.may.names c.in-Ok.ensures.word c.amiss.ensures.is
+returns-in-None-clause-damage g c = λ room. amiss-damage g.H.Host c.args.self.now c.load.new.self c.args.of c.in-Ok.s.0 c.amiss.new.self.disk.rest c.amiss.result c.in-Ok.ensures.sound c.in-Ok.ensures.thinned c.requires.may.names c.in-Ok.ensures.word c.amiss.ensures.is
 
 pub returns-in-None-clause-brings : goal.returns-in-None-clause-brings
 returns-in-None-clause-brings g c = brings-then c.args.self.now c.load.new.self c.amiss.new.self _ c.load.ensures.brings c.amiss.ensures.brings

@@ -17,6 +17,7 @@ use Rattle.method_cache.specs.Found.{found}
 use Rattle.loom_memory.proofs.CacheLaws.{cache-same}
 use Rattle.loom_memory.proofs.GentleLaws.{steady-is, steady-refl}
 use Rattle.loom_memory.proofs.ExactLaws.{exact-leaf, name-value}
+use Rattle.loom_memory.proofs.DeadLaws.{thin-told}
 use Rattle.loom_memory.proofs.memory.LoomMemory.word_for.Goals as goal
 
 pub returns-in-Some-clause-means : goal.returns-in-Some-clause-means
@@ -45,8 +46,10 @@ returns-in-Some-find_or_leaf-clause-sound g c =
     record {
       kept = calm-kept m.parts c.find_or_leaf.new.p m.regs m.pinned m.ledger c.requires.sound.kept (leaf-calm m.pinned (core_of m.parts) (core_of c.find_or_leaf.new.p) c.requires.sound.kept.parts.core c.in-Some-find_or_leaf.ensures.parts.core step) c.in-Some-find_or_leaf.ensures.parts (ref-tight (core_of m.parts) (core_of c.find_or_leaf.new.p) step.step c.requires.sound.kept.tight) (ap size_of c.in-Some-find_or_leaf.ensures.segment);
       over = over-then g.H.Host m.disk.host.now m.disk.rest (core_of m.parts) (core_of c.find_or_leaf.new.p) m.ledger step.stays step.step c.requires.sound.over;
+      soon = c.requires.sound.soon;
       exact = exact-leaf g.H.Host (Some c.in-Some-find_or_leaf.s) m.parts c.find_or_leaf.new.p m.disk.host.now m.disk.rest m.ledger.next c.in-Some-name.name c.requires.sound.exact c.in-Some-find_or_leaf.ensures.parts step c.in-Some-find_or_leaf.ensures.found c.in-Some-find_or_leaf.ensures.only tt
           (λ told. c.requires.named told c.in-Some-name.name (name-value c.args.v.now c.in-Some-name.name (sym c.in-Some-name.ensures)));
+      thin = thin-told g.H.Host c.args.self.now _ c.requires.sound.thin (λ on. on) (returns-in-Some-find_or_leaf-clause-told g c);
     }
 
 pub returns-in-Some-find_or_leaf-clause-entries : goal.returns-in-Some-find_or_leaf-clause-entries

@@ -7,6 +7,8 @@ use Rattle.loom_memory.proofs.SayLaws.{put-sound}
 use Rattle.loom_memory.proofs.LentLaws.{lent-write, lent-others, lent-told, others-lent}
 use Rattle.loom_host.specs.declared.outside.Role.TheVariants.{Work}
 use Rattle.loom_memory.specs.Residents.{is_resident, words_resident, fetched}
+use Rattle.loom_memory.proofs.DeadLaws.{thin-of}
+use Rattle.object_memory.specs.Told.{Told}
 use Rattle.loom_memory.proofs.memory.LoomMemory.write_to.Goals as goal
 
 pub write_to-requires : goal.write_to-requires
@@ -20,7 +22,9 @@ pub returns-clause-sound : goal.returns-clause-sound
 returns-clause-sound g c = record {
   kept = c.requires.sound.kept;
   over = put-sound g.H.Host c.args.self.now c.write_to.new.self.host.now c.write_to.new.self.rest c.requires.sound c.write_to.ensures.rest c.write_to.ensures.work (λ told. (c.write_to.ensures.keeps c.requires.sound.over.stands told).stands told);
+  soon = c.requires.sound.soon;
   exact = exact-work g.H.Host c.args.self.now.parts c.args.self.now.disk.host.now c.write_to.new.self.host.now c.args.self.now.disk.rest c.write_to.new.self.rest c.args.self.now.ledger.next c.requires.sound.exact c.write_to.ensures.rest c.write_to.ensures.work;
+  thin = thin-of g.H.Host c.args.self.now _ c.requires.sound.thin (λ on. on) (ap (λ (t : Told). t.heap) (returns-clause-told g c)) (ap (λ (t : Told). t.regs) (returns-clause-told g c)) (ap (λ (t : Told). t.slots) (returns-clause-told g c));
 }
 
 pub returns-clause-put : goal.returns-clause-put

@@ -1,28 +1,30 @@
 use Rattle.std.proofs.Common.{◌≡◌, refl, ◌∙◌}
 use Rattle.long_names.specs.Access.{WriteWords, Nothing}
 use Rattle.loom_memory.specs.Memory.{loom_told}
-use Rattle.loom_memory.proofs.AccessLaws.{refused-is, quiet-ready}
-use Rattle.loom_memory.proofs.LastLaws.{can-still}
-use Rattle.loom_memory.proofs.StoreLaws.{err-of, store-last, store-ready}
+use Rattle.loom_memory.proofs.AccessLaws.{refused-is}
+use Rattle.loom_memory.proofs.MakingLaws.{thinned-ready}
+use Rattle.loom_memory.proofs.FreedLaws.{can-freed}
+use Rattle.loom_memory.proofs.ReachLaws.{done-by, store-freed, stored-heap}
+use Rattle.loom_memory.proofs.StoreLaws.{err-of, store-ready}
 use Rattle.long_names.specs.State.{name_at}
 use Rattle.loom_memory.proofs.GentleLaws.{then-store, err-store}
 use Rattle.loom_memory.proofs.KeepingLaws.{then-keeps}
 use Rattle.purger.specs.Purge.{HasRoom}
 use Rattle.loom_memory.specs.Damage.{words_read}
-use Rattle.loom_memory.proofs.DamageLaws.{quiet-damage}
+use Rattle.loom_memory.proofs.DamageLaws.{thinned-damage}
 use Rattle.loom_memory.proofs.MindLaws.{minds-stored}
 use Rattle.loom_memory.proofs.OneLaws.{brings-then}
 use Rattle.loom_memory.proofs.memory.LoomMemory.write_words.Goals as goal
 
 pub store_words-requires-clause-ready : goal.store_words-requires-clause-ready
-store_words-requires-clause-ready g c = quiet-ready (loom_told g.H.Host c.args.self.now) (loom_told g.H.Host c.open.new.self) c.in-Ok.ensures.quiet c.requires.fit.ready
+store_words-requires-clause-ready g c = thinned-ready (loom_told g.H.Host c.args.self.now) (loom_told g.H.Host c.open.new.self) c.in-Ok.ensures.thinned c.requires.fit.ready
 
 pub store_words-requires-clause-may : goal.store_words-requires-clause-may
 unfolding loom_told
-store_words-requires-clause-may g c = λ told. can-still (loom_told g.H.Host c.args.self.now) (loom_told g.H.Host c.open.new.self) (WriteWords c.args.of c.args.at c.args.from.now) c.in-Ok.ensures.quiet (c.requires.may.heap told)
+store_words-requires-clause-may g c = λ told. can-freed (loom_told g.H.Host c.args.self.now) (loom_told g.H.Host c.open.new.self) (WriteWords c.args.of c.args.at c.args.from.now) c.args.of refl c.in-Ok.ensures.thinned c.requires.may.heap told
 
 pub returns-in-Ok-clause-access : goal.returns-in-Ok-clause-access
-returns-in-Ok-clause-access g c = store-last c.store_words.result (loom_told g.H.Host c.args.self.now) (loom_told g.H.Host c.open.new.self) (loom_told g.H.Host c.store_words.new.self) (WriteWords c.args.of c.args.at c.args.from.now) refl tt refl c.in-Ok.ensures.quiet c.store_words.ensures.stored (err-of c.store_words.result (loom_told g.H.Host c.open.new.self) (loom_told g.H.Host c.store_words.new.self) (WriteWords c.args.of c.args.at c.args.from.now) tt refl c.store_words.ensures.err) (c.in-Ok.ensures.core (WriteWords c.args.of c.args.at c.args.from.now) refl refl)
+returns-in-Ok-clause-access g c = store-freed c.store_words.result (loom_told g.H.Host c.args.self.now) (loom_told g.H.Host c.open.new.self) (loom_told g.H.Host c.store_words.new.self) (WriteWords c.args.of c.args.at c.args.from.now) c.args.of refl tt refl refl c.in-Ok.ensures.thinned c.store_words.ensures.stored (err-of c.store_words.result (loom_told g.H.Host c.open.new.self) (loom_told g.H.Host c.store_words.new.self) (WriteWords c.args.of c.args.at c.args.from.now) tt refl c.store_words.ensures.err) (c.in-Ok.ensures.core (WriteWords c.args.of c.args.at c.args.from.now) refl refl)
 
 pub returns-in-Err-clause-access : goal.returns-in-Err-clause-access
 returns-in-Err-clause-access g c = refused-is (loom_told g.H.Host c.args.self.now) (loom_told g.H.Host c.open.new.self) (WriteWords c.args.of c.args.at c.args.from.now) (λ _. Nothing) c.in-Err.f (c.in-Err.ensures.err (WriteWords c.args.of c.args.at c.args.from.now) refl refl tt)
@@ -30,7 +32,7 @@ returns-in-Err-clause-access g c = refused-is (loom_told g.H.Host c.args.self.no
 pub returns-in-Ok-clause-fit : goal.returns-in-Ok-clause-fit
 returns-in-Ok-clause-fit g c = record {
   sound = c.store_words.ensures.sound;
-  ready = store-ready c.store_words.result (loom_told g.H.Host c.open.new.self) (loom_told g.H.Host c.store_words.new.self) (WriteWords c.args.of c.args.at c.args.from.now) refl (quiet-ready (loom_told g.H.Host c.args.self.now) (loom_told g.H.Host c.open.new.self) c.in-Ok.ensures.quiet c.requires.fit.ready) c.store_words.ensures.stored;
+  ready = store-ready c.store_words.result (loom_told g.H.Host c.open.new.self) (loom_told g.H.Host c.store_words.new.self) (WriteWords c.args.of c.args.at c.args.from.now) refl (thinned-ready (loom_told g.H.Host c.args.self.now) (loom_told g.H.Host c.open.new.self) c.in-Ok.ensures.thinned c.requires.fit.ready) c.store_words.ensures.stored;
   lender = c.store_words.ensures.lender ∙ c.in-Ok.ensures.lender;
   outside = c.store_words.ensures.outside ∙ c.in-Ok.ensures.outside;
 }
@@ -47,7 +49,7 @@ returns-in-Ok-clause-cached g c = then-keeps c.store_words.result g.H.Host c.arg
 pub returns-in-Ok-clause-damage : goal.returns-in-Ok-clause-damage
 returns-in-Ok-clause-damage g c =
     let m = c.args.self.now in
-    quiet-damage c.store_words.result g.H.Host m c.open.new.self c.args.of c.in-Ok.s.0 c.store_words.new.self.disk.rest (HasRoom m.parts (words_read c.store_words.new.self) 27) c.in-Ok.ensures.sound c.in-Ok.ensures.quiet c.requires.may.names c.in-Ok.ensures.word c.store_words.ensures.damage
+    thinned-damage c.store_words.result g.H.Host m c.open.new.self c.args.of c.in-Ok.s.0 c.store_words.new.self.disk.rest (HasRoom m.parts (words_read c.store_words.new.self) 27) c.in-Ok.ensures.sound c.in-Ok.ensures.thinned c.requires.may.names c.in-Ok.ensures.word c.store_words.ensures.damage
 
 pub returns-in-Ok-clause-minds : goal.returns-in-Ok-clause-minds
 returns-in-Ok-clause-minds g c =
@@ -56,3 +58,6 @@ returns-in-Ok-clause-minds g c =
 
 pub returns-in-Ok-clause-brings : goal.returns-in-Ok-clause-brings
 returns-in-Ok-clause-brings g c = brings-then c.args.self.now c.open.new.self c.store_words.new.self _ c.open.ensures.brings c.store_words.ensures.brings
+
+pub returns-in-Ok-clause-gone : goal.returns-in-Ok-clause-gone
+returns-in-Ok-clause-gone g c = done-by c.store_words.result g.H.Host c.args.self.now c.open.new.self c.store_words.new.self (name_at ((loom_told g.H.Host c.args.self.now).regs c.args.of)) (WriteWords c.args.of c.args.at c.args.from.now) c.in-Ok.ensures.thinned c.in-Ok.ensures.freed (stored-heap c.store_words.result g.H.Host c.open.new.self c.store_words.new.self (WriteWords c.args.of c.args.at c.args.from.now) c.store_words.ensures.stored)
