@@ -15,8 +15,8 @@ use Rattle.loom_host.specs.declared.outside.Role.TheVariants.{Image, Notes, Save
 use Rattle.text_lines.specs.Breaks.{text_break}
 use Rattle.text_lines.specs.Spelling.{heap_text}
 use Rattle.text_lines.specs.Texts.{IsImageText, IsTextOf}
-use Rattle.text_laws.proofs.TextBack.{text-back}
-use Rattle.text_laws.proofs.TextHeaps.{image_text_to, same_heap}
+use Rattle.text_lines.proofs.TextBack.{text-back}
+use Rattle.text_lines.proofs.TextHeaps.{image_text_to, same_heap}
 use Rattle.loom_run.specs.Completes.{IsConverted, IsSource}
 use Rattle.loom_run.specs.Converts.{ConvertsAt, EndsConversion, bytes_by, head_under, verb_for}
 use Rattle.loom_run.specs.declared.converting.Way.{Way}
