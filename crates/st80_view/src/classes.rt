@@ -1,7 +1,9 @@
 // Which objects are classes, and whose each method is.
-use crate::objects::Objects;
-use crate::view::{View, item_of};
+ghost use Rattle.std.specs.Prelude.{◌≡◌, IfSome};
+
+use crate::view::View;
 use long_names::{Body, Name, Rec, Value, Values};
+use st80_objects::{Objects, item_of};
 use std::alloc::{AllocError, Global};
 
 /// How many superclasses are followed, as a lookup does.
@@ -181,7 +183,7 @@ fn mark_not(objects: &Objects, marks: &mut Vec<bool>, name: Name) {
 impl View {
     /// Whether an object is a class: known as one, the class of an object or the superclass of a class, or of the shape of one: a superclass or nil, a method dictionary, an instance specification. nil is none.
     pub fn is_class(&self, name: Name) -> bool {
-        match self.objects.place(name) {
+        match self.image.objects.place(name) {
             Some(place) => self.classes.get(place).copied().unwrap_or(false),
             None => false,
         }
@@ -189,7 +191,7 @@ impl View {
 
     /// The superclass of a class, unless it is nil.
     pub fn superclass(&self, class: Name) -> Option<Name> {
-        let name = self.name_in(class, SUPERCLASS)?;
+        let name = self.image.name_in(class, SUPERCLASS)?;
         if name == Name::NIL { None } else { Some(name) }
     }
 
@@ -199,7 +201,9 @@ impl View {
     }
 
     /// Where a method is found first, by rising name of the class.
-    pub fn method_home(&self, method: Name) -> Option<MethodHome> {
+    pub fn method_home(&self, method: Name) -> Option<MethodHome>
+        ensures { IfSome result (λ home. home.method ≡ method) }
+    {
         let place = self.methods.partition_point(|home| home.method < method);
         let home = *self.methods.get(place)?;
         if home.method == method {
@@ -210,7 +214,9 @@ impl View {
     }
 
     /// The method that a class has in its own dictionary under a selector.
-    pub fn own_method(&self, class: Name, selector: Value) -> Option<MethodHome> {
+    pub fn own_method(&self, class: Name, selector: Value) -> Option<MethodHome>
+        ensures { IfSome result (λ home. (home.class ≡ class) × (home.selector ≡ selector)) }
+    {
         for home in self.methods.iter() {
             if home.class == class && home.selector == selector {
                 return Some(*home);

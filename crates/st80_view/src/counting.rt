@@ -83,7 +83,7 @@ impl View {
     /// The words that hold an object, by rising name of the holder.
     pub fn holders(&self, alloc: Global, held: Name) -> Result<Vec<Hold>, AllocError> {
         let mut holds = Vec::new(alloc);
-        for rec in self.objects.all() {
+        for rec in self.image.objects.all() {
             add_holds(&mut holds, rec, held)?;
         }
         Ok(holds)
@@ -91,8 +91,8 @@ impl View {
 
     /// How many words hold each object, by its place. A name that no object has isn't counted.
     pub fn words_held(&self, alloc: Global) -> Result<Vec<u64>, AllocError> {
-        let mut counts = vec![in alloc; 0u64; self.objects.len()]?;
-        for rec in self.objects.all() {
+        let mut counts = vec![in alloc; 0u64; self.image.objects.len()]?;
+        for rec in self.image.objects.all() {
             self.count_name(&mut counts, rec.class);
             if let Some(fields) = fields_of(&rec.body) {
                 self.count_fields(&mut counts, fields);
@@ -110,7 +110,7 @@ impl View {
     }
 
     fn count_name(&self, counts: &mut Vec<u64>, name: Name) {
-        if let Some(place) = self.objects.place(name) {
+        if let Some(place) = self.image.objects.place(name) {
             if let Some(count) = counts.get_mut(place) {
                 *count = count.saturating_add(1);
             }
@@ -119,15 +119,15 @@ impl View {
 
     /// The classes that objects have, with how many: those with most objects first, and of equal ones by rising name.
     pub fn class_counts(&self, alloc: Global) -> Result<Vec<ClassCount>, AllocError> {
-        let mut sums = vec![in alloc; (0u64, 0u64); self.objects.len()]?;
-        for rec in self.objects.all() {
-            if let Some(place) = self.objects.place(rec.class) {
+        let mut sums = vec![in alloc; (0u64, 0u64); self.image.objects.len()]?;
+        for rec in self.image.objects.all() {
+            if let Some(place) = self.image.objects.place(rec.class) {
                 add_sum(&mut sums, place, record_size(rec));
             }
         }
         let mut counts = Vec::new(alloc);
         for (i, (objects, bytes)) in sums.iter().enumerate() {
-            if let Some(rec) = self.objects.at(i) {
+            if let Some(rec) = self.image.objects.at(i) {
                 if *objects > 0 {
                     counts.push(ClassCount {
                         class: rec.name,
@@ -144,7 +144,7 @@ impl View {
     /// The objects whose records are longest, at most so many, the longest first, and of equal ones by rising name.
     pub fn largest(&self, alloc: Global, most: usize) -> Result<Vec<(Name, u64)>, AllocError> {
         let mut sizes = Vec::new(alloc);
-        for rec in self.objects.all() {
+        for rec in self.image.objects.all() {
             sizes.push((rec.name, record_size(rec)))?;
         }
         sizes.sort_by_key(|size| u64::MAX - size.1)?;

@@ -1,4 +1,7 @@
 // The rules 10, 11, 12 and 14: each place that breaks one.
+ghost use Rattle.std.specs.Prelude.{◌≡◌};
+ghost use Rattle.st80_view.specs.Findings.{place_of, rule_of};
+
 use crate::counting::{Part, fields_of};
 use crate::view::View;
 use long_names::{Name, Rec, Value, Values};
@@ -44,7 +47,9 @@ pub enum Finding {
 
 impl Finding {
     /// The rule that breaks.
-    pub fn rule(&self) -> u8 {
+    pub fn rule(&self) -> u8
+        ensures { result ≡ rule_of self.now }
+    {
         match self {
             Finding::Lost { .. } => 10,
             Finding::Miscounted { .. } | Finding::Unheld { .. } => 11,
@@ -54,7 +59,9 @@ impl Finding {
     }
 
     /// The place at which the program would tell it: a name.
-    pub fn place(&self) -> u64 {
+    pub fn place(&self) -> u64
+        ensures { result ≡ place_of self.now }
+    {
         match self {
             Finding::Lost { holder, .. } => u64::from(holder.get()),
             Finding::Miscounted { name, .. }
@@ -66,20 +73,15 @@ impl Finding {
 }
 
 impl View {
-    /// Whether a name is that of an object.
-    pub fn is_there(&self, name: Name) -> bool {
-        self.objects.place(name).is_some()
-    }
-
     /// Each place that breaks one of the rules 10, 11, 12 and 14: by rising rule, and within one by rising name.
     pub fn findings(&self, alloc: Global) -> Result<Vec<Finding>, AllocError> {
         let mut findings = Vec::new(alloc);
-        for rec in self.objects.all() {
+        for rec in self.image.objects.all() {
             self.find_lost(&mut findings, rec)?;
         }
         self.find_miscounted(alloc, &mut findings)?;
         for name in Name::known() {
-            if !self.is_there(name) {
+            if !self.image.is_there(name) {
                 findings.push(Finding::Missing { name })?;
             }
         }
@@ -88,7 +90,7 @@ impl View {
     }
 
     fn find_lost(&self, findings: &mut Vec<Finding>, rec: &Rec) -> Result<(), AllocError> {
-        if !self.is_there(rec.class) {
+        if !self.image.is_there(rec.class) {
             findings.push(Finding::Lost {
                 holder: rec.name,
                 part: Part::Class,
@@ -109,7 +111,7 @@ impl View {
     ) -> Result<(), AllocError> {
         for i in 0..fields.len() {
             if let Value::Ref(name) = *fields.item(i) {
-                if !self.is_there(name) {
+                if !self.image.is_there(name) {
                     findings.push(Finding::Lost {
                         holder: rec.name,
                         part: crate::counting::part_of(&rec.body, i),
@@ -127,7 +129,7 @@ impl View {
         findings: &mut Vec<Finding>,
     ) -> Result<(), AllocError> {
         let counts = self.words_held(alloc)?;
-        for (rec, counted) in self.objects.all().iter().zip(counts.iter()) {
+        for (rec, counted) in self.image.objects.all().iter().zip(counts.iter()) {
             if rec.count != *counted {
                 findings.push(Finding::Miscounted {
                     name: rec.name,
@@ -142,7 +144,7 @@ impl View {
     }
 
     fn find_state(&self, findings: &mut Vec<Finding>) -> Result<(), AllocError> {
-        let state = self.head.state;
+        let state = self.image.head.state;
         self.find_role(findings, StateRole::Display, state.display)?;
         self.find_role(findings, StateRole::Input, state.input)?;
         self.find_role(findings, StateRole::Timer, state.timer)
@@ -163,7 +165,7 @@ impl View {
     /// Whether a word of the state is 0 or the name of an object.
     fn is_state_name(&self, word: u32) -> bool {
         match Name::new(word) {
-            Some(name) => self.is_there(name),
+            Some(name) => self.image.is_there(name),
             None => word == 0,
         }
     }

@@ -1,8 +1,7 @@
-//! An image read whole into memory, for a person who looks at it: its objects by rising name, what they are called, what holds them,
-//! its processes with their stacks, and which rules it breaks.
+//! An image that a person looks at: which of its objects are classes, whose its methods are, what its objects are called, what holds
+//! them, its processes with their stacks, and which rules it breaks.
 //!
-//! `View::open` reads the bytes of a file, or answers the first of the rules 1 to 9 and 13 that they break, and its place.
-//! `Objects::find` answers the record of a name. All that is printed is ASCII in a `String`:
+//! `View::open` reads the bytes of a file, as `Image::read` does. All that is printed is ASCII in a `String`:
 //!
 //!     let view = View::open(alloc, &bytes)?;
 //!     view.put_value(&mut out, Value::Ref(name))?;        // nil, #at:put:, a Point 84, class Integer
@@ -13,34 +12,20 @@
 //! where that is the class X (chapter 16 of the Blue Book); otherwise a line of the `.names` file (`Labels`), otherwise the name that
 //! the machine knows it by, otherwise its number.
 //!
-//! - Proved: Nothing panics, and all ends. A name is found exactly where an object has it.
+//! - Proved: A view is of the image that its bytes spell, and a fault is the first rule that they break, of 1 to 9 and 13.
 //! - Tested: What is printed (`st80_tests`).
-//! - Not said: That the rules are those of `first_break`; a test compares them.
+//! - Not said: That the findings are those of `first_break`; a test compares them.
 #![tactic(auto)]
 
 mod classes;
 mod counting;
-mod fault;
 mod findings;
-mod labels;
-mod large;
 mod naming;
-mod objects;
-mod printing;
 mod processes;
-mod reading;
-mod rules;
-mod sort;
 mod view;
 
 pub use classes::MethodHome;
 pub use counting::{ClassCount, Hold, Part, record_size};
-pub use fault::ViewFault;
 pub use findings::{Finding, StateRole};
-pub use labels::{LabelFault, Labels};
-pub use objects::Objects;
-pub use printing::{put_bytes, put_decimal, put_line, put_symbol};
-pub use processes::{Frame, Process, Standing, method_header};
-pub use rules::rule_sentence;
-pub use sort::{Sort, sort_of};
+pub use processes::{Frame, MethodHeader, Process, Standing, method_header};
 pub use view::View;

@@ -1,8 +1,12 @@
 // What objects are called.
+ghost use Rattle.std.specs.Prelude.{is_some, IfSome, IsTrue};
+ghost use Rattle.image_format.specs.Rules.{rec_in};
+ghost use Rattle.st80_view.specs.Viewed.{recs_of};
+
 use crate::classes::CLASS_NAME;
-use crate::printing::{put_bytes, put_symbol};
 use crate::view::View;
 use long_names::{Body, Name, Octets, Rec, Value};
+use st80_objects::{is_number, put_bytes, put_large, put_symbol};
 use std::alloc::AllocError;
 
 /// How many bytes of a text are put in one line.
@@ -77,12 +81,12 @@ fn put_text(out: &mut String, octets: &Octets) -> Result<(), AllocError> {
 impl View {
     /// The name that a class has in its field 6, where that is a text.
     pub fn own_class_name(&self, class: Name) -> Option<&Octets> {
-        self.text(self.name_in(class, CLASS_NAME)?)
+        self.image.text(self.image.name_in(class, CLASS_NAME)?)
     }
 
     /// The class whose metaclass an object is: its field 6, where that is a class with a name.
     pub fn this_class(&self, class: Name) -> Option<Name> {
-        let this = self.name_in(class, CLASS_NAME)?;
+        let this = self.image.name_in(class, CLASS_NAME)?;
         self.own_class_name(this)?;
         Some(this)
     }
@@ -129,7 +133,7 @@ impl View {
 
     /// The text of a selector: its bytes, its label, or the one that the machine knows it by.
     pub fn selector_text(&self, selector: Name) -> Option<&[u8]> {
-        if let Some(text) = self.text(selector) {
+        if let Some(text) = self.image.text(selector) {
             return Some(text.bytes());
         }
         if let Some(label) = self.labels.label(selector) {
@@ -166,9 +170,21 @@ impl View {
         }
     }
 
-    /// The class that is called so: by its name, as `X class`, by a label, by the machine's name, or by its number. Of several, the first by these ways, and then that with the lowest number.
-    pub fn find_class(&self, text: &[u8]) -> Option<Name> {
-        for rec in self.objects.all() {
+    /// The class that is called so: by its name, as `X class`, by the machine's name, or by its number, the lowest of several; otherwise by a label. It is an object of the image.
+    #[tactic(auto, unfolding(crate::specs::Viewed::image_of))]
+    pub fn find_class(&self, text: &[u8]) -> Option<Name>
+        ensures { IfSome result (λ name. IsTrue (is_some (rec_in (recs_of self.now) name))) }
+    {
+        let name = self.class_called(text)?;
+        if self.image.is_there(name) {
+            Some(name)
+        } else {
+            None
+        }
+    }
+
+    fn class_called(&self, text: &[u8]) -> Option<Name> {
+        for rec in self.image.objects.all() {
             if self.is_class_named(rec.name, text) {
                 return Some(rec.name);
             }
@@ -230,7 +246,7 @@ impl View {
         if let Some(word) = known_object(name) {
             return out.push_str(word);
         }
-        match self.find(name) {
+        match self.image.find(name) {
             Some(rec) => self.put_rec(out, rec),
             None => {
                 let number = name.get();
@@ -256,7 +272,7 @@ impl View {
 
     fn put_octets(&self, out: &mut String, rec: &Rec, octets: &Octets) -> Result<(), AllocError> {
         if rec.class == Name::LARGE_POSITIVE_INTEGER || rec.class == Name::LARGE_NEGATIVE_INTEGER {
-            return crate::large::put_large(out, octets.bytes(), rec.class);
+            return put_large(out, octets.bytes(), rec.class);
         }
         put_text(out, octets)
     }
@@ -297,9 +313,4 @@ impl View {
             None => false,
         }
     }
-}
-
-/// Whether a text is the number of a name.
-fn is_number(name: Name, text: &[u8]) -> bool {
-    crate::labels::number_of(text) == Some(name.get())
 }

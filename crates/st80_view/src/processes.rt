@@ -1,6 +1,10 @@
 // Processes, and the contexts of their stacks.
-use crate::view::{View, item_of};
+ghost use Rattle.std.specs.Prelude.{◌≡◌};
+ghost use Rattle.st80_view.specs.Viewed.{active_context, active_process, recs_of, scheduler};
+
+use crate::view::View;
 use long_names::{Body, Name, Value, Values};
+use st80_objects::item_of;
 use std::alloc::{AllocError, Global};
 
 /// How many links of a list, and how many contexts of a stack, are followed.
@@ -125,7 +129,7 @@ pub fn method_header(header: i16, extension: Option<i16>) -> MethodHeader {
 impl View {
     /// What the header of a method says.
     pub fn method_header(&self, method: Name) -> Option<MethodHeader> {
-        match &self.find(method)?.body {
+        match &self.image.find(method)?.body {
             Body::Method {
                 header,
                 literals,
@@ -136,25 +140,36 @@ impl View {
     }
 
     /// The scheduler: the value of object 8.
-    pub fn scheduler(&self) -> Option<Name> {
-        self.name_in(Name::SCHEDULER_ASSOCIATION, ASSOCIATION_VALUE)
+    #[tactic(auto, unfolding(crate::specs::Viewed::image_of))]
+    pub fn scheduler(&self) -> Option<Name>
+        ensures { result ≡ scheduler (recs_of self.now) }
+    {
+        self.image
+            .name_in(Name::SCHEDULER_ASSOCIATION, ASSOCIATION_VALUE)
     }
 
     /// The process that goes on at a start.
-    pub fn active_process(&self) -> Option<Name> {
-        self.name_in(self.scheduler()?, ACTIVE_PROCESS)
+    #[tactic(auto, unfolding(crate::specs::Viewed::image_of))]
+    pub fn active_process(&self) -> Option<Name>
+        ensures { result ≡ active_process (recs_of self.now) }
+    {
+        self.image.name_in(self.scheduler()?, ACTIVE_PROCESS)
     }
 
     /// The context that goes on at a start.
-    pub fn active_context(&self) -> Option<Name> {
-        self.name_in(self.active_process()?, SUSPENDED_CONTEXT)
+    #[tactic(auto, unfolding(crate::specs::Viewed::image_of))]
+    pub fn active_context(&self) -> Option<Name>
+        ensures { result ≡ active_context (recs_of self.now) }
+    {
+        self.image
+            .name_in(self.active_process()?, SUSPENDED_CONTEXT)
     }
 
     fn process(&self, name: Name, standing: &Standing) -> Process {
         Process {
             name,
-            priority: self.number_in(name, PRIORITY),
-            context: self.name_in(name, SUSPENDED_CONTEXT),
+            priority: self.image.number_in(name, PRIORITY),
+            context: self.image.name_in(name, SUSPENDED_CONTEXT),
             standing: *standing,
         }
     }
@@ -183,11 +198,12 @@ impl View {
     }
 
     fn lists(&self) -> Option<&Values> {
-        self.pointers(self.name_in(self.scheduler()?, LISTS)?)
+        self.image
+            .pointers(self.image.name_in(self.scheduler()?, LISTS)?)
     }
 
     fn add_waiting(&self, processes: &mut Vec<Process>) -> Result<(), AllocError> {
-        for rec in self.objects.all() {
+        for rec in self.image.objects.all() {
             if self.has_waiting(rec.name) {
                 self.add_list(processes, rec.name, &Standing::Waiting(rec.name))?;
             }
@@ -199,8 +215,8 @@ impl View {
     fn has_waiting(&self, semaphore: Name) -> bool {
         match self.first_link(semaphore) {
             Some(process) => {
-                self.number_in(semaphore, EXCESS_SIGNALS).is_some()
-                    && self.name_in(process, MY_LIST) == Some(semaphore)
+                self.image.number_in(semaphore, EXCESS_SIGNALS).is_some()
+                    && self.image.name_in(process, MY_LIST) == Some(semaphore)
             }
             None => false,
         }
@@ -208,12 +224,12 @@ impl View {
 
     /// The first process of a list, unless it is nil.
     fn first_link(&self, list: Name) -> Option<Name> {
-        not_nil(self.name_in(list, FIRST_LINK)?)
+        not_nil(self.image.name_in(list, FIRST_LINK)?)
     }
 
     /// The process behind one of a list, or nil.
     fn next_link(&self, process: Name) -> Name {
-        self.name_in(process, NEXT_LINK).unwrap_or(Name::NIL)
+        self.image.name_in(process, NEXT_LINK).unwrap_or(Name::NIL)
     }
 
     /// Adds the processes of a list, each once.
@@ -240,14 +256,14 @@ impl View {
 
     /// What a context is. None where it isn't one that could be loaded.
     pub fn frame(&self, context: Name) -> Option<Frame> {
-        let is_block = self.number_in(context, METHOD).is_some();
+        let is_block = self.image.number_in(context, METHOD).is_some();
         let home = if is_block {
-            self.name_in(context, HOME)?
+            self.image.name_in(context, HOME)?
         } else {
             context
         };
-        let method = self.name_in(home, METHOD)?;
-        let receiver = self.field(home, RECEIVER)?;
+        let method = self.image.name_in(home, METHOD)?;
+        let receiver = self.image.field(home, RECEIVER)?;
         Some(Frame {
             context,
             is_block,
@@ -255,18 +271,20 @@ impl View {
             method,
             receiver,
             pointer: self.pointer_of(context),
-            depth: self.number_in(context, STACK_POINTER),
+            depth: self.image.number_in(context, STACK_POINTER),
             sender: self.sender_of(context),
         })
     }
 
     /// The next byte of a context, whose field counts from 1.
     fn pointer_of(&self, context: Name) -> Option<i16> {
-        self.number_in(context, INSTRUCTION_POINTER)?.checked_sub(1)
+        self.image
+            .number_in(context, INSTRUCTION_POINTER)?
+            .checked_sub(1)
     }
 
     fn sender_of(&self, context: Name) -> Option<Name> {
-        not_nil(self.name_in(context, SENDER)?)
+        not_nil(self.image.name_in(context, SENDER)?)
     }
 
     /// The contexts from one on, each with its sender or caller behind it, up to 65,536.
@@ -293,7 +311,7 @@ impl View {
         match self.frame(context) {
             Some(frame) => {
                 frames.push(frame)?;
-                Ok(self.field(context, SENDER))
+                Ok(self.image.field(context, SENDER))
             }
             None => Ok(None),
         }
@@ -301,12 +319,14 @@ impl View {
 
     /// Temporary i of a frame's home.
     pub fn temporary(&self, frame: &Frame, i: usize) -> Option<Value> {
-        self.field(frame.home, i.saturating_add(FIRST_TEMPORARY))
+        self.image
+            .field(frame.home, i.saturating_add(FIRST_TEMPORARY))
     }
 
     /// The value at a place of a frame's stack, counted from 0 at its bottom, temporaries of a method among them.
     pub fn stacked(&self, frame: &Frame, i: usize) -> Option<Value> {
-        self.field(frame.context, i.saturating_add(FIRST_TEMPORARY))
+        self.image
+            .field(frame.context, i.saturating_add(FIRST_TEMPORARY))
     }
 
     /// Puts where a frame is: `Class>>selector`, with the receiver's class before it where that is another, and `[] in` before a block.
@@ -317,7 +337,7 @@ impl View {
         let Some(home) = self.method_home(frame.method) else {
             return self.put_method_name(out, frame.method);
         };
-        match self.class_of(frame.receiver) {
+        match self.image.class_of(frame.receiver) {
             Some(class) if class != home.class => {
                 self.put_class_name(out, class)?;
                 out.push('(')?;

@@ -1,5 +1,5 @@
 -- Objects by rising name.
-use Rattle.std.specs.Prelude.{◌≡◌, ℕ, ◌<◌, List, length, slice_index_or}
+use Rattle.std.specs.Prelude.{◌≡◌, ℕ, ◌<◌, List, [], ◌∷◌, length, slice_index_or}
 use Rattle.long_names.specs.declared.object.Rec.{Rec}
 
 -- the name of the object at a place
@@ -18,3 +18,9 @@ IsAbove recs n = (i : ℕ) (d : Rec) → i < length recs → name_at recs i d < 
 pub record IsAt (recs : List Rec) (name i : ℕ) : Type 0 where
   pub in_range : i < length recs
   pub has_name : (d : Rec) → name_at recs i d ≡ name
+
+-- the name of the last; 0, which no object has, where there is none
+abbrev pub last_name : List Rec → ℕ
+last_name [] = 0
+last_name (r ∷ []) = r.name
+last_name (r ∷ s ∷ rs) = last_name (s ∷ rs)

@@ -1,8 +1,8 @@
 use Rattle.std.proofs.Common.{rules}
 use Rattle.std.proofs.lemmas.List.Sorted.{answers_always}
 use Rattle.long_names.specs.declared.object.Rec.{Rec}
-use Rattle.st80_view.proofs.Places.{searched}
-use Rattle.st80_view.proofs.objects.Objects.search.Goals as goal
+use Rattle.st80_objects.proofs.Places.{searched}
+use Rattle.st80_objects.proofs.objects.Objects.search.Goals as goal
 
 -- the closure gives an object's name, and the slice is the objects
 pub returns : goal.returns

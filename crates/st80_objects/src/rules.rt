@@ -1,7 +1,12 @@
 // The rules of images, in sentences.
+ghost use Rattle.std.specs.Prelude.{◌≡◌, IsTrue};
+ghost use Rattle.st80_objects.specs.Sentences.{are_apart, sentence_of, sentences};
 
 /// A rule of images in a sentence. Rule 0 is the grammar of texts; a number that no rule has is said to be none.
-pub fn rule_sentence(rule: u8) -> &'static str {
+#[tactic(auto, unfolding(crate::specs::Sentences::sentence_of))]
+pub fn rule_sentence(rule: u8) -> &'static str
+    ensures { result.now ≡ sentence_of rule }
+{
     match rule {
         0 => "a line is parts with one space between two, as `NAME CLASS pointers VALUE ..`",
         1 => "an image begins with the four bytes LOOM",
@@ -25,3 +30,8 @@ pub fn rule_sentence(rule: u8) -> &'static str {
         _ => "no rule of images has this number",
     }
 }
+
+/// No two rules have the same sentence, and none has an empty one.
+pub fn sentences_are_apart()
+    ensures { IsTrue (are_apart sentences) }
+{}

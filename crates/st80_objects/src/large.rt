@@ -47,7 +47,7 @@ fn digits_of(alloc: Global, bytes: &[u8]) -> Result<Vec<u8>, AllocError> {
 }
 
 /// Puts the number that a large integer is, and of one that has too many bytes how many.
-pub(crate) fn put_large(out: &mut String, bytes: &[u8], class: Name) -> Result<(), AllocError> {
+pub fn put_large(out: &mut String, bytes: &[u8], class: Name) -> Result<(), AllocError> {
     if bytes.len() > MOST_BYTES {
         let count = bytes.len();
         return write!(out, "a number of {count} bytes");

@@ -29,7 +29,7 @@ pub struct Labels {
 }
 
 /// The number that decimal digits are, below 2^32.
-pub(crate) fn number_of(digits: &[u8]) -> Option<u32> {
+fn number_of(digits: &[u8]) -> Option<u32> {
     let mut number = 0u32;
     for digit in digits {
         if !digit.is_ascii_digit() {
@@ -118,4 +118,9 @@ impl Labels {
         }
         None
     }
+}
+
+/// Whether a text is the number of a name, in decimal digits.
+pub fn is_number(name: Name, text: &[u8]) -> bool {
+    number_of(text) == Some(name.get())
 }

@@ -1,5 +1,5 @@
 // The objects of an image.
-ghost use Rattle.std.specs.Prelude.{◌≡◌, ◌≤◌, ◌<◌, ◌++◌, [], ◌∷◌, length, OnOk, IfOk, IfErr, IfSome, IfNone, None, option_copied, slice_get, IsTrue, if◌then◌else◌};
+ghost use Rattle.std.specs.Prelude.{◌≡◌, ◌≤◌, ◌<◌, ◌++◌, [], ◌∷◌, ℕ, length, nat_lt, OnErr, IfOk, IfErr, IfSome, IfNone, None, option_copied, slice_get, IsTrue, if◌then◌else◌};
 ghost use Rattle.image_format.specs.Rules.{rec_in};
 
 use long_names::{Name, Rec};
@@ -15,7 +15,7 @@ pub struct Objects {
 impl Model for Objects {
     ghost use Rattle.std.specs.Prelude.{List};
     ghost use Rattle.long_names.specs.declared.object.Rec.{Rec as Spelled};
-    ghost use Rattle.st80_view.specs.Rising.{IsRising};
+    ghost use Rattle.st80_objects.specs.Rising.{IsRising};
 
     ghost Value = { List Spelled };
 
@@ -25,7 +25,7 @@ impl Model for Objects {
 }
 
 impl Objects {
-    ghost use Rattle.st80_view.specs.Rising.{IsAt, IsAbove, IsRising};
+    ghost use Rattle.st80_objects.specs.Rising.{IsAt, IsAbove, IsRising, last_name};
 
     /// None. It takes no memory.
     pub fn new(alloc: Global) -> Objects
@@ -36,19 +36,30 @@ impl Objects {
         }
     }
 
-    /// Whether a name is above those of all objects.
-    pub fn is_above(&self, name: Name) -> bool
-        ensures { IsTrue result → IsAbove self.now name }
+    /// The name of the last object, the highest; 0 where there is none.
+    pub fn last_name(&self) -> u32
+        ensures value { result ≡ last_name self.now }
+        ensures above { (n : ℕ) → last_name self.now < n → IsAbove self.now n }
     {
         match self.recs.last() {
-            Some(rec) => rec.name.get() < name.get(),
-            None => true,
+            Some(rec) => rec.name.get(),
+            None => 0,
         }
+    }
+
+    /// Whether a name is above those of all objects.
+    pub fn is_above(&self, name: Name) -> bool
+        ensures value { result ≡ nat_lt (last_name self.now) name }
+        ensures above { IsTrue result → IsAbove self.now name }
+    {
+        self.last_name() < name.get()
     }
 
     /// Adds an object behind the others, where its name is above theirs, and answers whether it is.
     pub fn push(&mut self, rec: Rec) -> Result<bool, AllocError>
-        ensures { IfOk result (λ added. self.new ≡ (if added then self.old ++ rec ∷ [] else self.old)) }
+        ensures added { IfOk result (λ added. added ≡ nat_lt (last_name self.old) rec.name) }
+        ensures objects { IfOk result (λ added. self.new ≡ (if added then self.old ++ rec ∷ [] else self.old)) }
+        ensures refused { OnErr result (self.new ≡ self.old) }
     {
         if !self.is_above(rec.name) {
             return Ok(false);

@@ -1,0 +1,4 @@
+pub mod Rising
+pub mod Images
+pub mod Inside
+pub mod Sentences
