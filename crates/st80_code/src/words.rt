@@ -8,7 +8,7 @@ use std::alloc::{AllocError, Global};
 
 /// The literals and the code of a method.
 pub fn code_of(view: &View, method: Name) -> Option<(&Values, &[u8])> {
-    match &view.find(method)?.body {
+    match &view.image().find(method)?.body {
         Body::Method { literals, code, .. } => Some((literals, code.bytes())),
         Body::Pointers(_) | Body::Words(_) | Body::Bytes(_) => None,
     }
@@ -54,7 +54,7 @@ fn put_association(
     let Some(association) = literal_name(literals, i) else {
         return out.push_str(", which is no association");
     };
-    match view.field(association, 0) {
+    match view.image().field(association, 0) {
         Some(key) if key != Value::Ref(Name::NIL) => {
             out.push_str(", ")?;
             view.put_value(out, key)
@@ -127,13 +127,13 @@ fn put_literal_selector(
 fn put_special(out: &mut String, view: &View, i: u8) -> Result<(), AllocError> {
     let place = usize::from(i) * 2;
     out.push_str("send #")?;
-    match view.name_in(Name::SPECIAL_SELECTORS, place) {
+    match view.image().name_in(Name::SPECIAL_SELECTORS, place) {
         Some(selector) if view.selector_text(selector).is_some() => {
             view.put_selector(out, Value::Ref(selector))?;
         }
         _ => out.push_str(special_selector(i))?,
     }
-    match view.number_in(Name::SPECIAL_SELECTORS, place + 1) {
+    match view.image().number_in(Name::SPECIAL_SELECTORS, place + 1) {
         Some(arguments) if 0 <= arguments && arguments <= 255 => {
             put_arguments(out, arguments as u8)
         }
