@@ -1,4 +1,8 @@
 // What is asked for.
+ghost use Rattle.std.specs.Prelude.{IfOk};
+ghost use Rattle.st80_show.specs.Answers.{IsAnswer};
+ghost use Rattle.st80_view.specs.Viewed.{recs_of};
+
 use crate::class::{show_class, show_method};
 use crate::columns::put_left_out;
 use crate::image::{show_counts, show_image};
@@ -42,7 +46,9 @@ pub fn show(
     out: &mut String,
     view: &View,
     asked: &Asked<'_>,
-) -> Result<Found, AllocError> {
+) -> Result<Found, AllocError>
+    ensures { IfOk result (IsAnswer (recs_of view.now) asked.now) }
+{
     match asked {
         Asked::Image => show_image(alloc, out, view)?,
         Asked::Processes => show_processes(alloc, out, view)?,
@@ -76,7 +82,7 @@ fn show_object_named(
         out.push_str(" is no name: a name is an even number from 2 on\n")?;
         return Ok(Found::Nothing);
     };
-    if !view.is_there(name) {
+    if !view.image().is_there(name) {
         let number = name.get();
         write!(out, "no object has the name {number}\n")?;
         return Ok(Found::Nothing);
@@ -106,7 +112,7 @@ fn no_class(out: &mut String, view: &View, text: &str) -> Result<Found, AllocErr
     out.push_str(text)?;
     out.push_str("; these are there:\n")?;
     let mut count = 0usize;
-    for rec in view.objects().all() {
+    for rec in view.image().objects.all() {
         if view.is_class(rec.name) {
             count = count.saturating_add(1);
             if count <= MOST_CLASSES {

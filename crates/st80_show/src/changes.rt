@@ -1,5 +1,11 @@
 // What of two images differs.
+ghost use Rattle.std.specs.Prelude.{◌≡◌, ◌↔◌, false, IfOk};
+ghost use Rattle.image_format.specs.Rules.{object_of_rec};
+ghost use Rattle.st80_show.specs.Same.{IsSameImage};
+ghost use Rattle.st80_view.specs.Viewed.{image_of};
+
 use crate::columns::put_counted;
+use crate::same::{is_same_image, is_same_object};
 use image_format::State;
 use long_names::{Body, Rec, Values};
 use st80_view::View;
@@ -8,10 +14,12 @@ use std::alloc::AllocError;
 /// How many fields of one object are put.
 const MOST_CHANGES: usize = 200;
 
-/// Puts what of two images differs: heads, states, and object by object. Nothing where they are the same. Answers how many objects differ.
-pub fn show_difference(out: &mut String, before: &View, after: &View) -> Result<u64, AllocError> {
+/// Puts what of two images differs: heads, states, and object by object; that no object differs, where that is all. Answers whether something differs.
+pub fn show_difference(out: &mut String, before: &View, after: &View) -> Result<bool, AllocError>
+    ensures { IfOk result (λ differs. differs ≡ false ↔ IsSameImage (image_of before.now) (image_of after.now)) }
+{
     put_openings(out, before, after)?;
-    put_states(out, &before.state(), &after.state())?;
+    put_states(out, &before.image().state(), &after.image().state())?;
     let gone = put_gone(out, before, after)?;
     let changed = put_changed(out, before, after)?;
     put_counted(
@@ -21,7 +29,7 @@ pub fn show_difference(out: &mut String, before: &View, after: &View) -> Result<
         "objects differ",
     )?;
     out.push('\n')?;
-    Ok(gone.saturating_add(changed))
+    Ok(!is_same_image(before.image(), after.image()))
 }
 
 fn put_number(out: &mut String, what: &str, old: u32, new: u32) -> Result<(), AllocError> {
@@ -32,8 +40,8 @@ fn put_number(out: &mut String, what: &str, old: u32, new: u32) -> Result<(), Al
 }
 
 fn put_openings(out: &mut String, before: &View, after: &View) -> Result<(), AllocError> {
-    let old = before.head().opening;
-    let new = after.head().opening;
+    let old = before.image().head.opening;
+    let new = after.image().head.opening;
     put_number(out, "version", old.version, new.version)?;
     put_number(out, "objects", old.objects, new.objects)?;
     put_number(out, "next name", old.next, new.next)
@@ -50,8 +58,8 @@ fn put_states(out: &mut String, old: &State, new: &State) -> Result<(), AllocErr
 /// Puts the objects that the second image hasn't, and answers how many they are.
 fn put_gone(out: &mut String, before: &View, after: &View) -> Result<u64, AllocError> {
     let mut count = 0u64;
-    for rec in before.objects().all() {
-        if !after.is_there(rec.name) {
+    for rec in before.image().objects.all() {
+        if !after.image().is_there(rec.name) {
             put_name(out, before, rec)?;
             out.push_str(" is gone\n")?;
             count = count.saturating_add(1);
@@ -69,8 +77,8 @@ fn put_name(out: &mut String, view: &View, rec: &Rec) -> Result<(), AllocError> 
 /// Puts the objects that the first image hasn't, or has otherwise, and answers how many they are.
 fn put_changed(out: &mut String, before: &View, after: &View) -> Result<u64, AllocError> {
     let mut count = 0u64;
-    for rec in after.objects().all() {
-        let differs = match before.find(rec.name) {
+    for rec in after.image().objects.all() {
+        let differs = match before.image().find(rec.name) {
             Some(old) => put_change(out, before, after, old, rec)?,
             None => put_new(out, after, rec)?,
         };
@@ -94,8 +102,12 @@ fn put_change(
     after: &View,
     old: &Rec,
     new: &Rec,
-) -> Result<bool, AllocError> {
-    let mut differs = false;
+) -> Result<bool, AllocError>
+    ensures { IfOk result (λ differs. differs ≡ false ↔ (object_of_rec old.now ≡ object_of_rec new.now)) }
+{
+    if is_same_object(old, new) {
+        return Ok(false);
+    }
     if old.class != new.class {
         put_name(out, after, new)?;
         out.push_str(": its class ")?;
@@ -103,10 +115,9 @@ fn put_change(
         out.push_str(" became ")?;
         after.put_class_name(out, new.class)?;
         out.push('\n')?;
-        differs = true;
     }
-    let body_differs = put_body_change(out, before, after, old, new)?;
-    Ok(differs || body_differs)
+    put_body_change(out, before, after, old, new)?;
+    Ok(true)
 }
 
 fn put_body_change(
@@ -115,7 +126,7 @@ fn put_body_change(
     after: &View,
     old: &Rec,
     new: &Rec,
-) -> Result<bool, AllocError> {
+) -> Result<(), AllocError> {
     match (&old.body, &new.body) {
         (Body::Pointers(a), Body::Pointers(b)) => put_values(out, before, after, new, a, b),
         (Body::Words(a), Body::Words(b)) => put_raw(out, after, new, a.words() != b.words()),
@@ -126,12 +137,12 @@ fn put_body_change(
 }
 
 /// Puts that an object has other contents, where it has.
-fn put_raw(out: &mut String, after: &View, rec: &Rec, differs: bool) -> Result<bool, AllocError> {
+fn put_raw(out: &mut String, after: &View, rec: &Rec, differs: bool) -> Result<(), AllocError> {
     if differs {
         put_name(out, after, rec)?;
         out.push_str(" has other contents\n")?;
     }
-    Ok(differs)
+    Ok(())
 }
 
 /// Puts which fields of an object differ.
@@ -142,7 +153,7 @@ fn put_values(
     rec: &Rec,
     old: &Values,
     new: &Values,
-) -> Result<bool, AllocError> {
+) -> Result<(), AllocError> {
     let mut changes = 0usize;
     if old.len() != new.len() {
         put_name(out, after, rec)?;
@@ -163,7 +174,7 @@ fn put_values(
             }
         }
     }
-    Ok(changes > 0)
+    Ok(())
 }
 
 /// Puts that a method has other literals or other code, where it has.
@@ -173,7 +184,7 @@ fn put_methods(
     after: &View,
     old: &Rec,
     new: &Rec,
-) -> Result<bool, AllocError> {
+) -> Result<(), AllocError> {
     match (&old.body, &new.body) {
         (
             Body::Method {
@@ -187,11 +198,10 @@ fn put_methods(
                 code,
             },
         ) => {
-            let literals_differ = put_values(out, before, after, new, old_literals, literals)?;
+            put_values(out, before, after, new, old_literals, literals)?;
             let code_differs = *old_header != *header || old_code.bytes() != code.bytes();
-            put_raw(out, after, new, code_differs)?;
-            Ok(literals_differ || code_differs)
+            put_raw(out, after, new, code_differs)
         }
-        _ => Ok(false),
+        _ => Ok(()),
     }
 }

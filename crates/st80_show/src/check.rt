@@ -1,6 +1,7 @@
 // Which rules an image breaks.
 use image_format::Break;
-use st80_view::{Finding, Part, StateRole, View, rule_sentence};
+use st80_objects::rule_sentence;
+use st80_view::{Finding, Part, StateRole, View};
 use std::alloc::{AllocError, Global};
 
 /// Puts the first of the rules 1 to 9 and 13 that bytes break: its number and place, what stands there, and the rule in a sentence.

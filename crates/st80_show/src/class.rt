@@ -57,7 +57,7 @@ fn put_chain(out: &mut String, view: &View, class: Name) -> Result<(), AllocErro
 
 /// What an instance specification says, bit by bit.
 fn put_specification(out: &mut String, view: &View, class: Name) -> Result<(), AllocError> {
-    let Some(number) = view.number_in(class, SPECIFICATION) else {
+    let Some(number) = view.image().number_in(class, SPECIFICATION) else {
         return Ok(());
     };
     let bits = i32::from(number).rem_euclid(32_768);
@@ -78,7 +78,7 @@ fn put_specification(out: &mut String, view: &View, class: Name) -> Result<(), A
 
 fn put_instances(out: &mut String, view: &View, class: Name) -> Result<(), AllocError> {
     let mut count = 0u64;
-    for rec in view.objects().all() {
+    for rec in view.image().objects.all() {
         if rec.class == class {
             count = count.saturating_add(1);
         }
@@ -89,7 +89,7 @@ fn put_instances(out: &mut String, view: &View, class: Name) -> Result<(), Alloc
 }
 
 fn put_subclasses(out: &mut String, view: &View, class: Name) -> Result<(), AllocError> {
-    for rec in view.objects().all() {
+    for rec in view.image().objects.all() {
         if view.is_class(rec.name) && view.superclass(rec.name) == Some(class) {
             out.push_str("  subclass ")?;
             view.put_class_name(out, rec.name)?;

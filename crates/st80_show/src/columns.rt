@@ -1,5 +1,5 @@
 // Numbers in columns.
-use st80_view::put_decimal;
+use st80_objects::put_decimal;
 use std::alloc::AllocError;
 
 /// Puts a number with commas, with spaces in front of it up to so many columns.

@@ -2,7 +2,8 @@
 use crate::columns::{put_counted, put_left_out, put_number};
 use crate::process::put_process;
 use long_names::{Body, Name};
-use st80_view::{ClassCount, View, put_decimal};
+use st80_objects::put_decimal;
+use st80_view::{ClassCount, View};
 use std::alloc::{AllocError, Global};
 
 /// How many classes and objects are put of an image.
@@ -31,16 +32,16 @@ pub fn show_image(alloc: Global, out: &mut String, view: &View) -> Result<(), Al
 }
 
 fn put_head(out: &mut String, view: &View) -> Result<(), AllocError> {
-    let opening = view.head().opening;
+    let opening = view.image().head.opening;
     let version = opening.version;
     let next = opening.next;
     write!(out, "an image of version {version}: ")?;
-    put_counted(out, view.objects().len() as u64, "object", "objects")?;
+    put_counted(out, view.image().objects.len() as u64, "object", "objects")?;
     write!(out, ", next name {next}\n")
 }
 
 fn put_state(out: &mut String, view: &View) -> Result<(), AllocError> {
-    let state = view.state();
+    let state = view.image().state();
     out.push_str("clock ")?;
     put_decimal(out, u64::from(state.clock))?;
     put_role(out, view, "display", state.display)?;
@@ -121,7 +122,7 @@ fn kind_counts(view: &View) -> KindCounts {
         bytes: 0,
         methods: 0,
     };
-    for rec in view.objects().all() {
+    for rec in view.image().objects.all() {
         let count = match &rec.body {
             Body::Pointers(_) => &mut counts.pointers,
             Body::Words(_) => &mut counts.words,
@@ -155,7 +156,7 @@ pub fn show_counts(alloc: Global, out: &mut String, view: &View) -> Result<(), A
 fn put_most_held(alloc: Global, out: &mut String, view: &View) -> Result<(), AllocError> {
     let words = view.words_held(alloc)?;
     let mut held = Vec::new(alloc);
-    for (rec, count) in view.objects().all().iter().zip(words.iter()) {
+    for (rec, count) in view.image().objects.all().iter().zip(words.iter()) {
         if *count > 0 {
             held.push((rec.name, *count))?;
         }

@@ -3,7 +3,8 @@ use crate::columns::{put_counted, put_left_out};
 use crate::process::put_frame;
 use long_names::{Body, Name, Octets, Rec, Values, Words16};
 use st80_code::put_method;
-use st80_view::{Hold, Part, View, put_symbol, record_size};
+use st80_objects::put_symbol;
+use st80_view::{Hold, Part, View, record_size};
 use std::alloc::{AllocError, Global};
 
 /// How many fields of an object, and how many of what holds it, are put.
@@ -23,7 +24,7 @@ pub fn show_object(
     view: &View,
     name: Name,
 ) -> Result<(), AllocError> {
-    let Some(rec) = view.find(name) else {
+    let Some(rec) = view.image().find(name) else {
         return Ok(());
     };
     put_title(out, view, rec)?;

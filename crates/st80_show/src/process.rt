@@ -1,4 +1,8 @@
 // Processes and stacks.
+ghost use Rattle.std.specs.Prelude.{◌≡◌, IfOk};
+ghost use Rattle.st80_show.specs.Answers.{stack_found};
+ghost use Rattle.st80_view.specs.Viewed.{recs_of};
+
 use crate::ask::Found;
 use long_names::{Name, Value, Values};
 use st80_code::{code_of, decode, first_pointer, put_method_line};
@@ -61,7 +65,9 @@ pub fn show_processes(alloc: Global, out: &mut String, view: &View) -> Result<()
 }
 
 /// Puts the stack of the active process, context by context, with arguments, temporaries and what stands on each stack.
-pub fn show_stack(alloc: Global, out: &mut String, view: &View) -> Result<Found, AllocError> {
+pub fn show_stack(alloc: Global, out: &mut String, view: &View) -> Result<Found, AllocError>
+    ensures { IfOk result (λ found. found ≡ stack_found (recs_of view.now)) }
+{
     let Some(process) = view.active_process() else {
         out.push_str("no active process: field 1 of object 8 is no scheduler\n")?;
         return Ok(Found::Nothing);
