@@ -88,7 +88,7 @@ pub(crate) fn put_top(
 ) -> Result<(), AllocError> {
     put_spaces(line, TOP_COLUMN)?;
     match top {
-        Value::Ref(name) if view.find(name).is_none() => {
+        Value::Ref(name) if view.image().find(name).is_none() => {
             let number = name.get();
             write!(line, "new {number}, of class ")?;
             view.put_class_name(line, class)

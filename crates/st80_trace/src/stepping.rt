@@ -137,7 +137,7 @@ fn class_of_new<M: ObjectMemory>(m: &mut M, view: &View, top: Value) -> Result<N
     ensures fit { StaysFit M.ObjectMemory m.old m.new result }
 {
     match top {
-        Value::Ref(name) if view.find(name).is_none() => class_in(m, Reg::R20),
+        Value::Ref(name) if view.image().find(name).is_none() => class_in(m, Reg::R20),
         _ => Ok(Name::NIL),
     }
 }
