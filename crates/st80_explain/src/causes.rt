@@ -1,4 +1,9 @@
 //! Why a machine is stuck, and where it stands.
+ghost use Rattle.std.specs.Prelude.{◌≡◌, ◌≢◌, IfSome, IsNone};
+ghost use Rattle.blue_model.specs.Cause.{cause_number};
+ghost use Rattle.blue_model.specs.declared.cause.Cause.{Cause};
+ghost use Rattle.st80_explain.specs.Sentences.{cause_meaning, cause_name};
+
 use blue_model::Cause;
 use long_names::{Name, Value};
 use st80_code::{Instruction, code_of, decode, first_pointer, put_instruction, special_arguments};
@@ -6,7 +11,10 @@ use st80_view::{Frame, Process, Standing, View};
 use std::alloc::{AllocError, Global};
 
 /// The cause of a number.
-fn cause_of(number: u8) -> Option<Cause> {
+fn cause_of(number: u8) -> Option<Cause>
+    ensures known { IfSome result (λ cause. cause_number cause ≡ number) }
+    ensures unknown { IsNone result → (cause : Cause) → cause_number cause ≢ number }
+{
     match number {
         1 => Some(Cause::Pointer),
         2 => Some(Cause::Unused),
@@ -20,7 +28,10 @@ fn cause_of(number: u8) -> Option<Cause> {
 }
 
 /// What a cause is called, and what it means.
-fn cause_words(cause: Cause) -> (&'static str, &'static str) {
+fn cause_words(cause: Cause) -> (&'static str, &'static str)
+    ensures name { result.0.now ≡ cause_name cause }
+    ensures meaning { result.1.now ≡ cause_meaning cause }
+{
     match cause {
         Cause::Pointer => (
             "Pointer",
@@ -148,7 +159,9 @@ fn message_of(view: &View, frame: &Frame) -> Option<(Value, u8)> {
                 }
             }
         Instruction::SendSpecial(i) => {
-            let selector = view.field(Name::SPECIAL_SELECTORS, usize::from(i) * 2)?;
+            let selector = view
+                .image()
+                .field(Name::SPECIAL_SELECTORS, usize::from(i) * 2)?;
             Some((selector, special_arguments(i)))
         }
         _ => None,
@@ -164,7 +177,7 @@ fn below_top(view: &View, frame: &Frame, depth: u8) -> Option<Value> {
 
 /// The class of the value so much below the top of a frame's stack.
 fn class_below(view: &View, frame: &Frame, depth: u8) -> Option<Name> {
-    view.class_of(below_top(view, frame, depth)?)
+    view.image().class_of(below_top(view, frame, depth)?)
 }
 
 /// Puts which message isn't understood, and by what.

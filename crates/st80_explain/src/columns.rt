@@ -1,7 +1,11 @@
 //! Where a line of a text breaks the grammar: its parts with their columns.
+ghost use Rattle.std.specs.Prelude.{◌≡◌, ◌+◌, ◌<◌, ◌≤◌, length, IfErr, IfSome};
+ghost use Rattle.st80_explain.specs.Spots.{IsSpotOf};
+
 use long_names::{Kind, Name};
-use text_lines::LONGEST_LINE;
-use text_parts::{byte_in, kind_in, long_in, name_in, number_in, small_in, value_in, word_in};
+use text_lines::{
+    LONGEST_LINE, byte_in, kind_in, long_in, name_in, number_in, small_in, value_in, word_in,
+};
 
 /// The most values, words or bytes of a line.
 const MOST_ITEMS: usize = 65_535;
@@ -45,14 +49,19 @@ pub(crate) struct Places<'a> {
 }
 
 impl<'a> Places<'a> {
-    pub(crate) fn new(line: &'a [u8]) -> Places<'a> {
+    pub(crate) fn new(line: &'a [u8]) -> Places<'a>
+        ensures { result.line.now ≡ line.now }
+    {
         Places {
             line,
             next: Some(0),
         }
     }
 
-    pub(crate) fn next(&mut self) -> Option<(usize, &'a [u8])> {
+    pub(crate) fn next(&mut self) -> Option<(usize, &'a [u8])>
+        ensures within { IfSome result (λ x. x.0 + length x.1.now ≤ length self.old.line.now) }
+        ensures line { self.new.line.now ≡ self.old.line.now }
+    {
         let at = self.next?;
         let rest = self.line.get(at..)?;
         match rest.iter().position(|b| *b == b' ') {
@@ -68,7 +77,10 @@ impl<'a> Places<'a> {
     }
 }
 
-fn spot_at(at: usize, part: &[u8], expected: Expected) -> Spot {
+fn spot_at(at: usize, part: &[u8], expected: Expected) -> Spot
+    ensures column { (0 < result.column) × (result.column ≤ at + 1) }
+    ensures len { result.len ≡ length part.now }
+{
     Spot {
         column: at.saturating_add(1),
         len: part.len(),
@@ -77,7 +89,9 @@ fn spot_at(at: usize, part: &[u8], expected: Expected) -> Spot {
 }
 
 /// The place behind a line.
-pub(crate) fn behind(line: &[u8], expected: Expected) -> Spot {
+pub(crate) fn behind(line: &[u8], expected: Expected) -> Spot
+    ensures { IsSpotOf (length line.now) result }
+{
     Spot {
         column: line.len().saturating_add(1),
         len: 0,
@@ -86,9 +100,11 @@ pub(crate) fn behind(line: &[u8], expected: Expected) -> Spot {
 }
 
 /// The place of a part by its number from 0.
-pub(crate) fn part_spot(line: &[u8], number: usize, expected: Expected) -> Spot {
+pub(crate) fn part_spot(line: &[u8], number: usize, expected: Expected) -> Spot
+    ensures { IsSpotOf (length line.now) result }
+{
     let mut places = Places::new(line);
-    for _ in 0..number {
+    'parts: for _ in 0..number {
         let _ = places.next();
     }
     match places.next() {
@@ -98,10 +114,12 @@ pub(crate) fn part_spot(line: &[u8], number: usize, expected: Expected) -> Spot 
 }
 
 /// The place of the first part behind the object's own name that is this name.
-pub(crate) fn name_spot(line: &[u8], name: Name) -> Spot {
+pub(crate) fn name_spot(line: &[u8], name: Name) -> Spot
+    ensures { IsSpotOf (length line.now) result }
+{
     let mut places = Places::new(line);
     let _ = places.next();
-    for _ in 0..line.len() {
+    'parts: for _ in 0..line.len() {
         let Some((at, part)) = places.next() else {
             break;
         };
@@ -128,7 +146,10 @@ fn is_right(part: &[u8], expected: Expected) -> bool {
 }
 
 /// The next part, where it is what is expected; otherwise where it stands.
-fn take<'a>(places: &mut Places<'a>, expected: Expected) -> Result<&'a [u8], Spot> {
+fn take<'a>(places: &mut Places<'a>, expected: Expected) -> Result<&'a [u8], Spot>
+    ensures spot { IfErr result (IsSpotOf (length places.old.line.now)) }
+    ensures line { places.new.line.now ≡ places.old.line.now }
+{
     match places.next() {
         Some((at, part)) => {
             if is_right(part, expected) {
@@ -142,7 +163,10 @@ fn take<'a>(places: &mut Places<'a>, expected: Expected) -> Result<&'a [u8], Spo
 }
 
 /// That nothing stands behind the parts that were taken.
-fn end(places: &mut Places<'_>) -> Result<(), Spot> {
+fn end(places: &mut Places<'_>) -> Result<(), Spot>
+    ensures spot { IfErr result (IsSpotOf (length places.old.line.now)) }
+    ensures line { places.new.line.now ≡ places.old.line.now }
+{
     match places.next() {
         Some((at, part)) => Err(spot_at(at, part, Expected::End)),
         None => Ok(()),
@@ -150,7 +174,10 @@ fn end(places: &mut Places<'_>) -> Result<(), Spot> {
 }
 
 /// That the parts up to the end are these, of which there are at most 65,535.
-fn take_items(places: &mut Places<'_>, expected: Expected) -> Result<(), Spot> {
+fn take_items(places: &mut Places<'_>, expected: Expected) -> Result<(), Spot>
+    ensures spot { IfErr result (IsSpotOf (length places.old.line.now)) }
+    ensures line { places.new.line.now ≡ places.old.line.now }
+{
     for count in 0..=places.line.len() {
         match places.next() {
             None => return Ok(()),
@@ -168,8 +195,11 @@ fn take_items(places: &mut Places<'_>, expected: Expected) -> Result<(), Spot> {
 }
 
 /// The literals of a method up to its first `code`.
-fn take_literals(places: &mut Places<'_>) -> Result<(), Spot> {
-    for _ in 0..=places.line.len() {
+fn take_literals(places: &mut Places<'_>) -> Result<(), Spot>
+    ensures spot { IfErr result (IsSpotOf (length places.old.line.now)) }
+    ensures line { places.new.line.now ≡ places.old.line.now }
+{
+    'literals: for _ in 0..=places.line.len() {
         match places.next() {
             None => return Err(behind(places.line, Expected::LiteralOrCode)),
             Some((at, part)) => {
@@ -185,7 +215,9 @@ fn take_literals(places: &mut Places<'_>) -> Result<(), Spot> {
     Ok(())
 }
 
-fn take_body(places: &mut Places<'_>, kind: Kind) -> Result<(), Spot> {
+fn take_body(places: &mut Places<'_>, kind: Kind) -> Result<(), Spot>
+    ensures spot { IfErr result (IsSpotOf (length places.old.line.now)) }
+{
     match kind {
         Kind::Pointers => take_items(places, Expected::Value),
         Kind::Words => take_items(places, Expected::Word),
@@ -198,15 +230,19 @@ fn take_body(places: &mut Places<'_>, kind: Kind) -> Result<(), Spot> {
     }
 }
 
-fn take_head(places: &mut Places<'_>) -> Result<(), Spot> {
+fn take_head(places: &mut Places<'_>) -> Result<(), Spot>
+    ensures spot { IfErr result (IsSpotOf (length places.old.line.now)) }
+{
     take(places, Expected::Loom)?;
-    for _ in 0..6 {
+    'numbers: for _ in 0..6 {
         take(places, Expected::Number)?;
     }
     end(places)
 }
 
-fn take_object(places: &mut Places<'_>) -> Result<(), Spot> {
+fn take_object(places: &mut Places<'_>) -> Result<(), Spot>
+    ensures spot { IfErr result (IsSpotOf (length places.old.line.now)) }
+{
     take(places, Expected::Name)?;
     take(places, Expected::Class)?;
     let kind = take(places, Expected::Kind)?;
@@ -217,7 +253,10 @@ fn take_object(places: &mut Places<'_>) -> Result<(), Spot> {
 }
 
 /// The place of what was found, or of the first byte that a line has too many.
-fn spot_of(line: &[u8], found: Result<(), Spot>) -> Spot {
+fn spot_of(line: &[u8], found: Result<(), Spot>) -> Spot
+    requires { IfErr found (IsSpotOf (length line.now)) }
+    ensures { IsSpotOf (length line.now) result }
+{
     match found {
         Err(spot) => spot,
         Ok(()) => Spot {
@@ -229,13 +268,19 @@ fn spot_of(line: &[u8], found: Result<(), Spot>) -> Spot {
 }
 
 /// Where the first line of a text breaks the grammar.
-pub(crate) fn head_spot(line: &[u8]) -> Spot {
-    let found = take_head(&mut Places::new(line));
+pub(crate) fn head_spot(line: &[u8]) -> Spot
+    ensures { IsSpotOf (length line.now) result }
+{
+    let mut places = Places::new(line);
+    let found = take_head(&mut places);
     spot_of(line, found)
 }
 
 /// Where the line of an object breaks the grammar.
-pub(crate) fn object_spot(line: &[u8]) -> Spot {
-    let found = take_object(&mut Places::new(line));
+pub(crate) fn object_spot(line: &[u8]) -> Spot
+    ensures { IsSpotOf (length line.now) result }
+{
+    let mut places = Places::new(line);
+    let found = take_object(&mut places);
     spot_of(line, found)
 }

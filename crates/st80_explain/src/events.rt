@@ -1,6 +1,6 @@
 //! Event files.
 use crate::texts::line_of;
-use st80_view::put_bytes;
+use st80_objects::put_bytes;
 use std::alloc::AllocError;
 
 /// How many bytes of a line are shown.

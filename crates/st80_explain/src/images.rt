@@ -1,7 +1,8 @@
 //! The break of an image in words.
 use image_format::{HEAD_LEN, STATE_LEN, STATE_VERSION, decode_rec, read_head};
 use long_names::Name;
-use st80_view::{Finding, View, put_decimal, rule_sentence};
+use st80_objects::{put_decimal, rule_sentence};
+use st80_view::{Finding, View};
 use std::alloc::{AllocError, Global};
 
 /// How many bytes the field has that breaks a rule.

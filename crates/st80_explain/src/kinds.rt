@@ -1,4 +1,7 @@
 //! What kind of file bytes are.
+ghost use Rattle.std.specs.Prelude.{◌≡◌};
+ghost use Rattle.st80_explain.specs.Sentences.{kind_text};
+
 use std::alloc::AllocError;
 
 /// What a file is, by how it begins.
@@ -74,7 +77,9 @@ fn is_events(bytes: &[u8]) -> bool {
 }
 
 /// What such a file is called, with its article.
-fn kind_words(kind: FileKind) -> &'static str {
+fn kind_words(kind: FileKind) -> &'static str
+    ensures { result.now ≡ kind_text kind }
+{
     match kind {
         FileKind::Empty => "an empty file",
         FileKind::Image => "an image",

@@ -20,9 +20,10 @@
 //! `read_text` is a reader of texts beside that of `image_text`, over the lines of `text_lines`. It answers the first break as `loom asm` does,
 //! with a column, or the view of the text, in which all counts are 0.
 //!
-//! - Proved: Nothing panics, and all ends.
+//! - Proved: Nothing panics, and all ends. The sizes that are advised are twice what there was or is needed, within limits. Each cause, kind of
+//!   file, role and expectation has words of its own (`laws`).
 //! - Tested: Lines and rules of `read_text` against those of `image_text`; the sentences (`st80_tests`).
-//! - Not said: The sentences.
+//! - Not said: What else the sentences say.
 #![tactic(auto)]
 
 mod causes;
@@ -30,6 +31,7 @@ mod columns;
 mod events;
 mod images;
 mod kinds;
+pub mod laws;
 mod nearness;
 mod sizes;
 mod statuses;

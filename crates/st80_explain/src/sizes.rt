@@ -1,18 +1,24 @@
 //! Sizes that are too small, and those to give.
+ghost use Rattle.std.specs.Prelude.{◌≡◌, ◌+◌, ◌*◌, max, min};
+
 use loom_words::{MOST_CORE, MOST_ENTRIES, MOST_ROOM};
 use object_memory::Need;
-use st80_view::put_decimal;
+use st80_objects::put_decimal;
 use std::alloc::AllocError;
 
 /// The core to give where an access needs so many words: twice as much as there was, and at least twice what it needs.
-pub fn core_for(need: &Need, core: u32) -> u32 {
+pub fn core_for(need: &Need, core: u32) -> u32
+    ensures { result ≡ min MOST_CORE (max (2 * core) (2 * need.now.words)) }
+{
     core.saturating_mul(2)
         .max(need.words.saturating_mul(2))
         .min(MOST_CORE)
 }
 
 /// The entries to give where an access needs so many.
-pub fn entries_for(need: &Need, entries: u32) -> u32 {
+pub fn entries_for(need: &Need, entries: u32) -> u32
+    ensures { result ≡ min MOST_ENTRIES (max (2 * entries) (2 * need.now.entries)) }
+{
     entries
         .saturating_mul(2)
         .max(need.entries.saturating_mul(2))
@@ -20,7 +26,9 @@ pub fn entries_for(need: &Need, entries: u32) -> u32 {
 }
 
 /// The room to give where so many objects would live: twice as many, and 8,192 more.
-pub fn room_for(live: u32) -> u32 {
+pub fn room_for(live: u32) -> u32
+    ensures { result ≡ min MOST_ROOM (2 * live + 8192) }
+{
     live.saturating_mul(2).saturating_add(8_192).min(MOST_ROOM)
 }
 

@@ -1,8 +1,11 @@
 //! What the answers mean.
+ghost use Rattle.std.specs.Prelude.{◌≡◌};
+ghost use Rattle.st80_explain.specs.Sentences.{role_text};
+
 use crate::causes::put_cause;
 use loom_host::Role;
 use loom_words::Status;
-use st80_view::{put_decimal, rule_sentence};
+use st80_objects::{put_decimal, rule_sentence};
 use std::alloc::AllocError;
 
 /// The paths of a command's files, each empty where it has none.
@@ -30,7 +33,9 @@ fn path_of<'a>(files: &Files<'a>, role: Role) -> &'a str {
 }
 
 /// What a role is, for people.
-fn role_words(role: Role) -> &'static str {
+fn role_words(role: Role) -> &'static str
+    ensures { result.now ≡ role_text role }
+{
     match role {
         Role::Image => "the image",
         Role::Events => "the event file",

@@ -5,7 +5,8 @@ use image_format::{
     is_tick,
 };
 use long_names::{Body, MOST_CODE, Name, Rec, literal_count};
-use st80_view::{Finding, Objects, View};
+use st80_objects::{Image, Objects};
+use st80_view::{Finding, View};
 use std::alloc::{AllocError, Global};
 use text_lines::{Head, Stated, head_in, object_in};
 
@@ -199,7 +200,7 @@ pub(crate) fn line_of(bytes: &[u8], number: u32) -> &[u8] {
 
 /// The break of an object by its name.
 fn object_break(bytes: &[u8], view: &View, rule: u8, name: Name, held: Option<Name>) -> TextBreak {
-    let place = view.objects().place(name).unwrap_or(0);
+    let place = view.image().objects.place(name).unwrap_or(0);
     let number = u32::try_from(place).unwrap_or(0).saturating_add(2);
     let line = line_of(bytes, number);
     TextBreak {
@@ -238,7 +239,7 @@ fn break_of(bytes: &[u8], view: &View, finding: &Finding) -> Option<TextBreak> {
 
 /// Judges the whole.
 fn judge(alloc: Global, bytes: &[u8], view: View) -> Result<TextReading, AllocError> {
-    if view.objects().len() < FEWEST_OBJECTS as usize {
+    if view.image().objects.len() < FEWEST_OBJECTS as usize {
         let spot = part_spot(line_of(bytes, 1), 0, Expected::Loom);
         return Ok(TextReading::Broken(at(1, 3, spot)));
     }
@@ -264,7 +265,7 @@ pub fn read_text(alloc: Global, bytes: &[u8]) -> Result<TextReading, AllocError>
     match read_objects(alloc, bytes, first.len().saturating_add(1), head.next)? {
         Ok(objects) => {
             let head = image_head(&head, objects.len());
-            let view = View::of_objects(alloc, head, objects)?;
+            let view = View::of_image(alloc, Image { head, objects })?;
             judge(alloc, bytes, view)
         }
         Err(found) => Ok(TextReading::Broken(found)),

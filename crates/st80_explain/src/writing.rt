@@ -1,14 +1,19 @@
 //! The break of a text in words.
+ghost use Rattle.std.specs.Prelude.{◌≡◌};
+ghost use Rattle.st80_explain.specs.Sentences.{expected_text};
+
 use crate::columns::{Expected, Spot};
 use crate::texts::{TextBreak, line_of};
-use st80_view::{put_bytes, rule_sentence};
+use st80_objects::{put_bytes, rule_sentence};
 use std::alloc::{AllocError, Global};
 
 /// How many bytes of what stood there are shown.
 const MOST_SHOWN: usize = 40;
 
 /// What should have stood at a place.
-fn expected_words(expected: Expected) -> &'static str {
+fn expected_words(expected: Expected) -> &'static str
+    ensures { result.now ≡ expected_text expected }
+{
     match expected {
         Expected::Loom => "the word loom, in lower case",
         Expected::Number =>

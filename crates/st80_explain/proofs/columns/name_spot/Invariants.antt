@@ -1,0 +1,5 @@
+use Rattle.std.proofs.Common.{◌≡◌}
+use Rattle.st80_explain.proofs.columns.name_spot.Given as goal
+
+abbrev pub invariant-parts : goal.invariant-parts
+invariant-parts l = l.places.line.now ≡ l.line
