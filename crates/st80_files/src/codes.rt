@@ -1,7 +1,8 @@
 // How the program ends: its exit codes.
-ghost use Rattle.std.specs.Prelude.{◌≡◌};
+ghost use Rattle.std.specs.Prelude.{◌≡◌, IsTrue, map};
+ghost use Rattle.st80_objects.specs.Sentences.{are_apart};
 ghost use Rattle.loom_words.specs.Status.{code_of};
-ghost use Rattle.st80_files.specs.Codes.{number_of};
+ghost use Rattle.st80_files.specs.Codes.{all_codes, number_of, when_of};
 
 use loom_words::Status;
 
@@ -66,7 +67,9 @@ impl Code {
     }
 
     /// When it comes, in a line.
-    pub fn when(self) -> &'static str {
+    pub fn when(self) -> &'static str
+        ensures { result.now ≡ when_of self }
+    {
         match self {
             Code::Well => "it went well",
             Code::NoStreams => "the null device can't be opened",
@@ -122,6 +125,16 @@ pub const ALL: &[Code] = &[
     Code::NotThere,
     Code::Differs,
 ];
+
+/// These are all of them.
+pub fn all_are_there()
+    ensures { ALL.now ≡ all_codes }
+{}
+
+/// No two codes come in the same words, and none in no words.
+pub fn codes_are_apart()
+    ensures { IsTrue (are_apart (map when_of all_codes)) }
+{}
 
 /// The code of a status of `loom`.
 pub fn code_for(status: &Status) -> Code

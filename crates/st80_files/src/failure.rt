@@ -1,4 +1,6 @@
 // Why the program ends before `loom` would.
+ghost use Rattle.st80_files.specs.Codes.{IsToldBy};
+
 use crate::codes::Code;
 use std::alloc::{AllocError, Global};
 use std::io::{self, ErrorKind};
@@ -11,13 +13,20 @@ pub enum Failure {
 }
 
 impl From<AllocError> for Failure {
+    ghost use Rattle.std.specs.Prelude.{◌≡◌};
+    ghost use Rattle.st80_files.specs.declared.failure.Failure.TheVariants.{Memory};
+
+    ghost from_gives = { λ _ e. e ≡ Memory };
+
     fn from(_: AllocError) -> Failure {
         Failure::Memory
     }
 }
 
 /// A failure with this text.
-pub fn failed(alloc: Global, code: Code, text: &str) -> Failure {
+pub fn failed(alloc: Global, code: Code, text: &str) -> Failure
+    ensures { IsToldBy code result }
+{
     match String::from_str(alloc, text) {
         Ok(text) => Failure::Told { code, text },
         Err(_) => Failure::Memory,
@@ -25,13 +34,9 @@ pub fn failed(alloc: Global, code: Code, text: &str) -> Failure {
 }
 
 /// A file, what was tried with it, and the system's reason.
-pub fn file_failed(
-    alloc: Global,
-    code: Code,
-    path: &str,
-    tried: &str,
-    error: &io::Error,
-) -> Failure {
+pub fn file_failed(alloc: Global, code: Code, path: &str, tried: &str, error: &io::Error) -> Failure
+    ensures { IsToldBy code result }
+{
     if error.kind() == ErrorKind::OutOfMemory {
         return Failure::Memory;
     }

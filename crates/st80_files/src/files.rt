@@ -1,4 +1,8 @@
 // Files and streams: what is copied in and out, what an image states first, and whether a file can be written.
+ghost use Rattle.std.specs.Prelude.{IfErr};
+ghost use Rattle.st80_files.specs.Codes.{IsToldBy, IsToldByOneOf};
+ghost use Rattle.st80_files.specs.declared.codes.Code.TheVariants as code;
+
 use crate::codes::Code;
 use crate::failure::{Failure, failed, file_failed};
 use std::alloc::AllocError;
@@ -24,7 +28,9 @@ fn copy_from<S: Read>(
     source: &mut S,
     name: &str,
     path: &str,
-) -> Result<(), Failure> {
+) -> Result<(), Failure>
+    ensures { IfErr result (IsToldBy code.NoTemporary) }
+{
     let alloc = rt.alloc();
     let mut file = match File::create_new(&rt, path) {
         Ok(file) => file,
@@ -43,7 +49,9 @@ fn copy_from<S: Read>(
 }
 
 /// Copies standard input into a new file.
-pub fn copy_in(rt: HostRuntime, path: &str) -> Result<(), Failure> {
+pub fn copy_in(rt: HostRuntime, path: &str) -> Result<(), Failure>
+    ensures { IfErr result (IsToldBy code.NoTemporary) }
+{
     copy_from(rt, &mut rt.reader(), "standard input", path)
 }
 
@@ -56,7 +64,9 @@ pub fn is_pipe(rt: HostRuntime, path: &str) -> bool {
 }
 
 /// Copies a pipe into a new file.
-pub fn copy_pipe(rt: HostRuntime, pipe: &str, path: &str) -> Result<(), Failure> {
+pub fn copy_pipe(rt: HostRuntime, pipe: &str, path: &str) -> Result<(), Failure>
+    ensures { IfErr result (IsToldByOneOf code.CantRead code.NoTemporary) }
+{
     match File::open(&rt, pipe) {
         Ok(mut file) => copy_from(rt, &mut file, pipe, path),
         Err(error) => Err(file_failed(rt.alloc(), Code::CantRead, pipe, "read", &error)),
@@ -64,7 +74,9 @@ pub fn copy_pipe(rt: HostRuntime, pipe: &str, path: &str) -> Result<(), Failure>
 }
 
 /// Copies a file to standard output.
-pub fn copy_out(rt: HostRuntime, path: &str) -> Result<(), Failure> {
+pub fn copy_out(rt: HostRuntime, path: &str) -> Result<(), Failure>
+    ensures { IfErr result (IsToldByOneOf code.CantRead code.WriteFault) }
+{
     let alloc = rt.alloc();
     let mut file = match File::open(&rt, path) {
         Ok(file) => file,
@@ -84,7 +96,9 @@ pub fn copy_out(rt: HostRuntime, path: &str) -> Result<(), Failure> {
 }
 
 /// All bytes of a file.
-pub fn bytes_of(rt: HostRuntime, path: &str) -> Result<Vec<u8>, Failure> {
+pub fn bytes_of(rt: HostRuntime, path: &str) -> Result<Vec<u8>, Failure>
+    ensures { IfErr result (IsToldBy code.CantRead) }
+{
     match fs::read(&rt, path) {
         Ok(bytes) => Ok(bytes),
         Err(error) => Err(file_failed(rt.alloc(), Code::CantRead, path, "read", &error)),
@@ -92,7 +106,9 @@ pub fn bytes_of(rt: HostRuntime, path: &str) -> Result<Vec<u8>, Failure> {
 }
 
 /// All bytes of a file, or of standard input where the word is `-`.
-pub fn bytes_or_input(rt: HostRuntime, word: &str) -> Result<Vec<u8>, Failure> {
+pub fn bytes_or_input(rt: HostRuntime, word: &str) -> Result<Vec<u8>, Failure>
+    ensures { IfErr result (IsToldBy code.CantRead) }
+{
     if word != STREAM {
         return bytes_of(rt, word);
     }
@@ -110,7 +126,9 @@ pub fn bytes_or_input(rt: HostRuntime, word: &str) -> Result<Vec<u8>, Failure> {
 }
 
 /// Writes a file, or standard output where the word is `-`.
-pub fn put_bytes(rt: HostRuntime, word: &str, bytes: &[u8]) -> Result<(), Failure> {
+pub fn put_bytes(rt: HostRuntime, word: &str, bytes: &[u8]) -> Result<(), Failure>
+    ensures { IfErr result (IsToldBy code.WriteFault) }
+{
     let written = if word == STREAM {
         rt.stdout().write_all(bytes)
     } else {
@@ -164,7 +182,9 @@ fn try_beside(rt: HostRuntime, path: &str) -> io::Result<()> {
 }
 
 // Whether a file of this path, which isn't there, can be made.
-fn try_new(rt: HostRuntime, path: &str) -> Result<(), Failure> {
+fn try_new(rt: HostRuntime, path: &str) -> Result<(), Failure>
+    ensures { IfErr result (IsToldBy code.CantWrite) }
+{
     let alloc = rt.alloc();
     let folder = folder_of(path);
     match rt.metadata(folder) {
@@ -187,7 +207,9 @@ fn try_new(rt: HostRuntime, path: &str) -> Result<(), Failure> {
 }
 
 /// Tries whether a file can be written, and leaves it as it is.
-pub fn try_writing(rt: HostRuntime, path: &str) -> Result<(), Failure> {
+pub fn try_writing(rt: HostRuntime, path: &str) -> Result<(), Failure>
+    ensures { IfErr result (IsToldBy code.CantWrite) }
+{
     let alloc = rt.alloc();
     match rt.metadata(path) {
         Ok(metadata) if metadata.is_dir() => {

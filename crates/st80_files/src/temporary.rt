@@ -1,4 +1,8 @@
 // A folder of the run's own in the temporary folder of the system.
+ghost use Rattle.std.specs.Prelude.{IfErr};
+ghost use Rattle.st80_files.specs.Codes.{IsToldBy};
+ghost use Rattle.st80_files.specs.declared.codes.Code.TheVariants as code;
+
 use crate::codes::Code;
 use crate::failure::{Failure, file_failed};
 use std::alloc::AllocError;
@@ -47,7 +51,9 @@ fn new_folder(rt: HostRuntime, base: &str) -> io::Result<String> {
 
 impl Temporary {
     /// A new one.
-    pub fn new(rt: HostRuntime) -> Result<Temporary, Failure> {
+    pub fn new(rt: HostRuntime) -> Result<Temporary, Failure>
+        ensures { IfErr result (IsToldBy code.NoTemporary) }
+    {
         let alloc = rt.alloc();
         let base = match env::temp_dir(&rt) {
             Ok(base) => base,
