@@ -1,4 +1,7 @@
 // Pictures behind a run, and by themselves.
+ghost use Rattle.std.specs.Prelude.{◌≡◌, IfOk};
+ghost use Rattle.st80_files.specs.declared.codes.Code.TheVariants as code;
+
 use st80_files::{Code, Failure, STREAM, bytes_of, bytes_or_input, copy_out, put_bytes};
 use st80_picture::{BadPicture, Picture, blocks, png, read, scaled};
 use std::io::IsTerminal;
@@ -114,7 +117,9 @@ pub fn convert(
     file: Option<&str>,
     scale: u32,
     width: Option<u32>,
-) -> Result<Code, Failure> {
+) -> Result<Code, Failure>
+    ensures { IfOk result (λ end. end ≡ code.Well) }
+{
     let bytes = bytes_or_input(rt, pbm)?;
     let picture = picture_of(rt, pbm, &bytes)?;
     let picture = match scaled(rt.alloc(), &picture, scale) {

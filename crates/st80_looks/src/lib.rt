@@ -4,7 +4,7 @@
 //! picture of a run. `explain` says on standard error what an answer means, by the row of words of the run. `manual_text` and `codes_text` are
 //! the manual and the table of exit codes.
 //!
-//! - Proved: It ends and nothing panics.
+//! - Proved: It ends and nothing panics. With which codes `show`, `diff` and `picture` end where nothing fails.
 //! - Tested: What is shown and said (`tests/desk.sh`).
 //! - Not said: The texts.
 #![tactic(auto)]

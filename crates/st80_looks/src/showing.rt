@@ -1,10 +1,14 @@
 // The commands that look at images: `show`, `diff` and `check`.
+ghost use Rattle.std.specs.Prelude.{◌≡◌, ◌⊎◌, IfOk};
+ghost use Rattle.st80_files.specs.declared.codes.Code.TheVariants as code;
+
 use crate::explaining::{put_bad_image, put_bad_text};
 use image_format::Break;
 use st80_explain::{FileKind, Wanted, file_kind, put_kind};
 use st80_files::{Code, Failure, STREAM, bytes_of, bytes_or_input, failed, put_bytes};
+use st80_objects::{ImageFault, LabelFault, Labels};
 use st80_show::{Asked, Found, show, show_difference, show_findings};
-use st80_view::{LabelFault, Labels, View, ViewFault};
+use st80_view::View;
 use st80_words::Shown;
 use std::rt::Files;
 
@@ -34,8 +38,8 @@ fn broken_text(
 fn view_of(rt: HostRuntime, word: &str, bytes: &[u8]) -> Result<View, Failure> {
     match View::open(rt.alloc(), bytes) {
         Ok(view) => Ok(view),
-        Err(ViewFault::Memory) => Err(Failure::Memory),
-        Err(ViewFault::Broken(fault)) => Err(broken(rt, word, bytes, &fault)),
+        Err(ImageFault::Memory) => Err(Failure::Memory),
+        Err(ImageFault::Broken(fault)) => Err(broken(rt, word, bytes, &fault)),
     }
 }
 
@@ -94,7 +98,9 @@ pub fn look(
     word: &str,
     shown: Shown<'_>,
     names: Option<&str>,
-) -> Result<Code, Failure> {
+) -> Result<Code, Failure>
+    ensures { IfOk result (λ end. (end ≡ code.Well) ⊎ (end ≡ code.NotThere)) }
+{
     let bytes = bytes_or_input(rt, word)?;
     let view = labelled(rt, word, &bytes, names)?;
     let mut text = String::new(rt.alloc());
@@ -111,7 +117,9 @@ pub fn look(
 }
 
 /// The command `diff`.
-pub fn compare(rt: HostRuntime, a: &str, b: &str, names: Option<&str>) -> Result<Code, Failure> {
+pub fn compare(rt: HostRuntime, a: &str, b: &str, names: Option<&str>) -> Result<Code, Failure>
+    ensures { IfOk result (λ end. (end ≡ code.Well) ⊎ (end ≡ code.Differs)) }
+{
     if a == STREAM && b == STREAM {
         let text = "only one file can come from standard input";
         return Err(failed(rt.alloc(), Code::Words, text));
@@ -121,13 +129,9 @@ pub fn compare(rt: HostRuntime, a: &str, b: &str, names: Option<&str>) -> Result
     let after = bytes_or_input(rt, b)?;
     let after = labelled(rt, b, &after, names)?;
     let mut text = String::new(rt.alloc());
-    let differences = show_difference(&mut text, &before, &after)?;
+    let differs = show_difference(&mut text, &before, &after)?;
     put_bytes(rt, STREAM, text.as_bytes())?;
-    Ok(if differences == 0 {
-        Code::Well
-    } else {
-        Code::Differs
-    })
+    Ok(if differs { Code::Differs } else { Code::Well })
 }
 
 // What is wrong with an image.
@@ -136,7 +140,9 @@ fn check_image(
     word: &str,
     bytes: &[u8],
     names: Option<&str>,
-) -> Result<Code, Failure> {
+) -> Result<Code, Failure>
+    ensures { IfOk result (λ end. (end ≡ code.Well) ⊎ (end ≡ code.ImageBad)) }
+{
     let view = labelled(rt, word, bytes, names)?;
     let mut text = String::new(rt.alloc());
     let findings = show_findings(rt.alloc(), &mut text, &view)?;
@@ -152,7 +158,9 @@ fn check_image(
 }
 
 // What is wrong with a text.
-fn check_text(rt: HostRuntime, word: &str, bytes: &[u8]) -> Result<Code, Failure> {
+fn check_text(rt: HostRuntime, word: &str, bytes: &[u8]) -> Result<Code, Failure>
+    ensures { IfOk result (λ end. (end ≡ code.Well) ⊎ (end ≡ code.TextBad)) }
+{
     let mut text = String::new(rt.alloc());
     let is_bad = put_bad_text(rt, &mut text, bytes)?;
     if !is_bad {
