@@ -1,0 +1,10 @@
+-- How a run ends.
+use Rattle.std.specs.Prelude.{◌≡◌}
+use Rattle.loom_words.specs.Status.{code_of}
+use Rattle.loom_words.specs.declared.status.Status.{Status}
+use Rattle.st80_files.specs.Codes.{number_of}
+use Rattle.st80_files.specs.declared.codes.Code.{Code}
+
+-- it is the code that `loom` has for some status
+abbrev pub IsLoomCode : Code → Type 0
+IsLoomCode code = (status : Status) × (number_of code ≡ code_of status)
