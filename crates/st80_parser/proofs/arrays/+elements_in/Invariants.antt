@@ -1,0 +1,12 @@
+use Rattle.std.proofs.Common.{◌≡◌, ◌≤◌, ◌++◌, length}
+use Rattle.st80_parser.specs.Written.{elements}
+use Rattle.st80_parser.proofs.arrays.+elements_in.Given as goal
+
+abbrev pub invariant-each : goal.invariant-each
+invariant-each l = (l.fn.cursor.rest.now ≡ elements l.found ++ l.cursor.rest.now) × (length l.cursor.rest.now ≤ length l.fn.cursor.rest.now)
+
+abbrev pub decreases-each : goal.decreases-each
+decreases-each l = length l.cursor.rest.now
+
+abbrev pub decreases-elements_in : goal.decreases-elements_in
+decreases-elements_in l = l.depth
