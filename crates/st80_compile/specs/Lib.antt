@@ -1,0 +1,4 @@
+pub mod Frame
+pub mod Bytes
+pub mod Steps
+pub mod Compiled
