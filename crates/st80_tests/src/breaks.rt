@@ -1,6 +1,7 @@
 // What an edited image breaks.
 use anyhow::{Context, Result};
-use st80_view::{Finding, View, ViewFault};
+use st80_objects::ImageFault;
+use st80_view::{Finding, View};
 use std::fs;
 
 /// The image that is edited.
@@ -48,11 +49,11 @@ pub(crate) fn break_answer(rt: HostRuntime, asked: &str) -> Result<String> {
     }
     match View::open(rt.alloc(), &bytes) {
         Ok(view) => first_finding(rt, &view),
-        Err(ViewFault::Broken(broken)) => {
+        Err(ImageFault::Broken(broken)) => {
             let rule = broken.rule;
             let place = broken.place;
             Ok(format!(in rt.alloc(); "{rule} {place}")?)
         }
-        Err(ViewFault::Memory) => Ok(String::from_str(rt.alloc(), "no memory")?),
+        Err(ImageFault::Memory) => Ok(String::from_str(rt.alloc(), "no memory")?),
     }
 }

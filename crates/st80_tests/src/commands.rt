@@ -1,8 +1,10 @@
 // Commands of cases, and what they put.
 use crate::answers::view_of;
+use crate::explained::put_drawn;
 use anyhow::{Context, Result, bail};
+use st80_objects::{ImageFault, Labels};
 use st80_show::{Asked, show, show_break, show_difference, show_findings};
-use st80_view::{Labels, View, ViewFault};
+use st80_view::View;
 use std::fs;
 
 /// What the words of a `show` ask for.
@@ -33,8 +35,8 @@ fn put_check(rt: HostRuntime, out: &mut String, file: &str) -> Result<()> {
             let count = show_findings(rt.alloc(), out, &view)?;
             writeln!(out, "{count} places")?;
         }
-        Err(ViewFault::Broken(broken)) => show_break(out, &bytes, &broken)?,
-        Err(ViewFault::Memory) => bail!("no memory"),
+        Err(ImageFault::Broken(broken)) => show_break(out, &bytes, &broken)?,
+        Err(ImageFault::Memory) => bail!("no memory"),
     }
     Ok(())
 }
@@ -59,6 +61,6 @@ pub(crate) fn put_command(rt: HostRuntime, out: &mut String, words: &[&str]) -> 
             Ok(())
         }
         [command, image] if *command == "check" => put_check(rt, out, image),
-        _ => bail!("no such command"),
+        _ => put_drawn(rt, out, words),
     }
 }

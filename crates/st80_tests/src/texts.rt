@@ -1,5 +1,4 @@
-// Files of rows and of cases.
-use crate::commands::put_command;
+// Changed texts, and where they break first.
 use anyhow::{Context, Result};
 use st80_explain::{TextReading, read_text};
 use std::fs;
@@ -67,29 +66,5 @@ pub(crate) fn report_texts(rt: HostRuntime, file: &str) -> Result<()> {
         }
     }
     println!(rt; "{file}: {count} rows")?;
-    Ok(())
-}
-
-/// Prints what a case puts, where it isn't what it wants.
-fn judge_case(rt: HostRuntime, case: &str) -> Result<()> {
-    let (command, wanted) = case.split_once('\n').unwrap_or((case, ""));
-    let mut out = String::new(rt.alloc());
-    let words = command.split(' ').collect::<Vec<&str>>(rt.alloc())?;
-    put_command(rt, &mut out, &words)?;
-    if out.as_str().trim_end() != wanted.trim_end() {
-        println!(rt; "{command}: this came:\n{out}")?;
-    }
-    Ok(())
-}
-
-/// Judges each case of a file: what stands before the first is no case.
-pub(crate) fn report_cases(rt: HostRuntime, file: &str) -> Result<()> {
-    let text = fs::read_to_string(&rt, file).context("the file of cases")?;
-    let mut count = 0u64;
-    for case in text.as_str().split("\n== ").skip(1) {
-        count = count.saturating_add(1);
-        judge_case(rt, case)?;
-    }
-    println!(rt; "{file}: {count} cases")?;
     Ok(())
 }

@@ -1,4 +1,4 @@
-// Commands of cases, and what they put.
+// Pictures, and what went wrong in sentences.
 use anyhow::{Context, Result, bail};
 use st80_explain::{
     TextReading, Wanted, nearest, put_events_break, put_image_break, put_kind, put_stuck,
@@ -34,7 +34,7 @@ fn put_text(rt: HostRuntime, out: &mut String, file: &str) -> Result<()> {
     let bytes = fs::read(&rt, file).context("a text")?;
     match read_text(rt.alloc(), &bytes)? {
         TextReading::Whole(view) => {
-            let count = view.objects().len();
+            let count = view.image().objects.len();
             writeln!(out, "{count} objects")?;
         }
         TextReading::Broken(found) => put_text_break(rt.alloc(), out, &bytes, &found)?,
@@ -75,8 +75,8 @@ fn put_nearest(rt: HostRuntime, out: &mut String, word: &str, among: &[&str]) ->
     Ok(())
 }
 
-/// Puts what a command of a case puts.
-pub(crate) fn put_command(rt: HostRuntime, out: &mut String, words: &[&str]) -> Result<()> {
+/// Puts what a command puts that draws or explains.
+pub(crate) fn put_drawn(rt: HostRuntime, out: &mut String, words: &[&str]) -> Result<()> {
     match words {
         [command, text] if *command == "sums" => put_sums(out, text),
         [command, file, times, to] if *command == "png" => {
