@@ -164,6 +164,23 @@ fn checkpoints_in_turn(rt: HostRuntime) -> Result<(), Fail> {
     Ok(())
 }
 
+// Room for an opening, a write and a sync, which go through then, and what is written is read again.
+#[test]
+fn room_is_taken(rt: HostRuntime) -> Result<(), Fail> {
+    let mut vault = MemoryVault::new(rt.alloc())?;
+    vault.reserve(10, 3, 24, 536)?;
+    assert!(rt; vault.open_named("CHECKPOINT", true).is_ok());
+    assert!(rt; vault.write_at(512, &[7; 24]).is_ok());
+    assert!(rt; vault.sync().is_ok());
+    let mut bytes = [0; 25];
+    assert!(rt; vault.read_at(511, &mut bytes).is_ok());
+    assert_eq!(rt;
+        (bytes[0], bytes[1], bytes[24], vault.fault_count()),
+        (0, 7, 7, 0)
+    );
+    Ok(())
+}
+
 // ---- stops
 
 /// What stands in a vault before the next keep: so many of the checkpoints, and in the gate that comes next these: a byte that isn't 1, a
