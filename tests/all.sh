@@ -2,10 +2,10 @@
 # All tests that aren't in the gate, one after the other: the documents themselves and the commands that they show, the examples, the cases of the
 # reference machine over real files, and the program on real files and streams, with kills, losses, faults and large runs.
 #
-#     tests/all.sh [-q] [PART..]      PART: docs, reading, examples, typed, cases, edge, vaults, kills, losses, faults, large, quick;
+#     tests/all.sh [-q] [PART..]      PART: docs, reading, examples, typed, cases, edge, vaults, kills, losses, faults, large, desk, quick;
 #                                 all without one
 #
-# The program is ./loom, which ./demo builds; LOOM, FILE_CASES and FAULT_RUNS may name others. Prints each part's lines, with -q only
+# The programs are ./loom and ./st80, which ./demo builds; LOOM, ST80, FILE_CASES and FAULT_RUNS may name others. Prints each part's lines, with -q only
 # those that failed, and each part's figure. What a machine has no means for is skipped, with a line. The last line is 'N passed, N failed', and the exit status is 1 where
 # something failed.
 set -u
@@ -16,7 +16,7 @@ if [ "${1-}" = -q ]; then
     quiet=yes
     shift
 fi
-parts=${*:-docs reading examples typed cases edge vaults kills losses faults large quick}
+parts=${*:-docs reading examples typed cases edge vaults kills losses faults large desk quick}
 
 # first NAME..: the first of these programs that is there; the first name where none is.
 first() {
@@ -27,6 +27,7 @@ first() {
     echo "$1"
 }
 loom=$(first "${LOOM:-./loom}" crates/loom_cli/out/loom_cli)
+st80=$(first "${ST80:-./st80}" crates/st80/out/st80)
 file_cases=$(first "${FILE_CASES:-crates/file_cases/out/file_cases}")
 fault_runs=$(first "${FAULT_RUNS:-crates/fault_runs/out/fault_runs}")
 work=$(mktemp -d) || exit 1
@@ -122,12 +123,13 @@ if [ ! -x "$loom" ]; then
     for name in examples typed edge kills faults large; do skip $name "there is no program $loom; ./demo builds it"; done
 else
     part examples tests/examples.sh "$loom"
-    part typed tests/typed.sh "$loom"
+    part typed env ST80="$st80" tests/typed.sh "$loom"
     part edge tests/edge.sh "$loom"
     part kills tests/kills.sh "$loom"
     part faults tests/faults.sh "$loom" "$fault_runs"
     part large tests/large.sh "$loom"
 fi
+if [ -x "$st80" ]; then part desk tests/desk.sh "$st80"; else skip desk "there is no program $st80; ./demo builds it"; fi
 if [ -x "$file_cases" ]; then part cases cases_on_files; else skip cases "there is no program $file_cases; rt ci builds it"; fi
 if command -v rt >/dev/null; then part quick picture_first; else skip quick "the kit's command rt isn't on the path"; fi
 

@@ -1,17 +1,18 @@
 #!/usr/bin/env bash
-# Types each command of README, PROGRAM, TOUR and the page of the examples as it stands, and compares what comes out with what the page shows.
+# Types each command of README, DESK, PROGRAM, TOUR and the page of the examples as it stands, and compares what comes out with what the page shows.
 #
 #     tests/typed.sh [PROGRAM [PAGE..]]
 #
 # A command is a line '    $ COMMAND'. What has to come out are the lines below it that are set in as far; a line '..' stands for any lines.
 # All commands of a page are typed in one new folder, in their order, where everything of the repository's top but `out` is at hand. Prints a line
-# for each command; the last line is 'N passed, N failed'.
+# for each command; the last line is 'N passed, N failed'. ./st80 is the program that ST80 names, where it is set.
 set -u
 top=$(cd "$(dirname "$0")/.." && pwd) || exit 1
 loom=$(realpath "${1:-$top/loom}") || exit 1
+st80=$(realpath "${ST80:-$top/st80}") || exit 1
 [ -x "$loom" ] || { echo "typed: there is no program $loom; ./demo builds it" >&2; exit 1; }
 [ $# -gt 0 ] && shift
-[ $# -gt 0 ] || set -- README.md docs/PROGRAM.md docs/TOUR.md examples/README.md
+[ $# -gt 0 ] || set -- README.md docs/DESK.md docs/PROGRAM.md docs/TOUR.md examples/README.md
 work=$(mktemp -d) || exit 1
 trap 'rm -rf "$work"' EXIT
 
@@ -54,11 +55,12 @@ for page in "$@"; do
     mkdir "$folder"
     for thing in "$top"/*; do
         case $(basename "$thing") in
-        out | loom) ;;
+        out | loom | st80) ;;
         *) ln -s "$thing" "$folder/" ;;
         esac
     done
     ln -s "$loom" "$folder/loom"
+    ln -s "$st80" "$folder/st80"
     command=
     before=$((passed + failed))
     while IFS= read -r line || [ -n "$line" ]; do

@@ -80,6 +80,23 @@ cp hello.loom image.png
 try 'run: a PNG over the image'      20 'run image.png --no-save --picture image.png' 'image.png is the image itself' '--in-place'
 try 'run: the stop over the image'   20 'run hello.loom --on-stop hello.loom' 'hello.loom is the image itself' '--in-place'
 try 'run: the picture is what is saved' 2 'run hello.loom --save a --picture a' 'the picture and the saved image are one file'
+cp sketch.events kept.events
+ln -s kept.events link.events
+try 'run: the stop over the events'  2 'run sketch.loom --events kept.events --on-stop kept.events --no-save' 'the file of --on-stop and the events are one file'
+try 'run: the stop over them by a link' 2 'run sketch.loom --events kept.events --on-stop link.events --no-save' 'the file of --on-stop and the events are one file'
+try 'run: the image over the events' 2 'run sketch.loom --events kept.events --save link.events' 'the saved image and the events are one file'
+try 'run: the picture over the events' 2 'run sketch.loom --events kept.events --no-save --picture link.events' 'the picture and the events are one file'
+cp sketch.events events.png
+try 'run: a PNG over the events'     2 'run sketch.loom --events events.png --no-save --picture events.png' 'the picture and the events are one file'
+same 'the events are as they were'   kept.events sketch.events
+same 'those beside a PNG, too'       events.png sketch.events
+try 'run: a PNG over what is saved'  2 'run hello.loom --save both.png --picture both.png' 'the picture and the saved image are one file'
+try 'run: the stop over what is saved' 2 'run hello.loom --save both --on-stop both' 'the file of --on-stop and the saved image are one file'
+cp hello.pbm drawn
+try 'run: the stop over the picture' 2 'run hello.loom --no-save --picture drawn --on-stop drawn' 'the picture and the file of --on-stop are one file'
+try 'run: the stop over the work file' 2 'run hello.loom --no-save --work scratch --on-stop scratch' 'the work file and the file of --on-stop are one file'
+same 'that picture is as it was'     drawn hello.pbm
+absent 'none of these came'          both both.png scratch
 try 'run: no folder for the stop'    20 'run hello.loom --on-stop nowhere/a' 'there is no folder nowhere'
 try 'run: the work file is the image' 2 'run hello.loom --work hello.loom'  'the work file and the image are one file'
 try 'run: the work file is an image' 10 'run hello.loom --no-save --work blit.loom' 'work fault' 'blit.loom is an image, a text or a picture'
@@ -124,6 +141,12 @@ try 'list: a text'                   3 'list hello.text'                    'hel
 try 'list: no folder'                20 'list hello.loom nowhere/a.text'    'there is no folder nowhere'
 try 'list: a folder'                 20 'list hello.loom folder'            'it is a folder'
 
+cp hello.loom twice.loom
+try 'list: over its image'           2 'list twice.loom twice.loom'         'the image and the text are one file'
+ln -s twice.loom twice.link
+try 'list: over its image by a link' 2 'list twice.loom twice.link'         'the image and the text are one file'
+same 'its image is as it was'        twice.loom hello.loom
+
 # asm.
 try 'asm: no words'                  2 'asm'                                '<TEXT>' '<IMAGE>'
 try 'asm: no image'                  2 'asm hello.text'                     '<IMAGE>'
@@ -145,6 +168,9 @@ try 'asm: a known object lacks'      18 'asm lacks.text a.loom'             'tex
 try 'asm: a lower line first'        18 'asm lower.text a.loom'             'text: line 3'
 sed 's/ 16383i/ 16384i/; 5s/pointers.*/pointers 16384i/' hello.text >range.text
 try 'asm: a value out of range'      18 'asm range.text a.loom'             'text: line 5' '16384i' 'from -16384i to 16383i'
+cp hello.text twice.text
+try 'asm: over its text'             2 'asm twice.text ./twice.text'        'the text and the image are one file'
+same 'its text is as it was'         twice.text hello.text
 { cat tour.text; echo '90 16 pointers'; } | sed '1s/^loom [0-9]*/loom 92/' >alone.text
 try 'asm: an object that nothing holds' 18 'asm alone.text a.loom'          'text: line 32, rule 11' 'Nothing holds object 90'
 absent 'asm: no image came of these' a.loom
@@ -154,6 +180,11 @@ try 'guard: no vault'                2 'guard counter.loom'                 '<VA
 try 'guard: the image as the vault'  2 'guard counter.loom counter.loom'    'the vault and the image are one file'
 try 'guard: an image as the vault'   15 'guard counter.loom blit.loom --no-save' 'vault fault' 'blit.loom is no vault: it is an image'
 try 'guard: no folder for the vault' 20 'guard counter.loom nowhere/vault --no-save' 'there is no folder nowhere'
+cp one.vault kept.vault
+try 'guard: the stop over the vault' 2 'guard counter.loom kept.vault --no-save --on-stop kept.vault' 'the vault and the file of --on-stop are one file'
+try 'guard: a picture over the vault' 2 'guard counter.loom kept.vault --no-save --picture ./kept.vault' 'the vault and the picture are one file'
+try 'resume: an image over the vault' 2 'resume kept.vault --save ./kept.vault' 'the vault and the saved image are one file'
+same 'the vault is as it was'        kept.vault one.vault
 try 'resume: no words'               2 'resume'                             '<VAULT>'
 try 'resume: no such vault'          15 'resume nothere --no-save'          'vault fault' 'nothere: No such file or directory'
 try 'resume: no such vault, and where to save' 15 'resume nothere'          'nothere: No such file or directory'
@@ -192,6 +223,9 @@ try 'picture: no words'              2 'picture'                            '<PB
 try 'picture: no such file'          21 'picture nothere.pbm'               'nothere.pbm' 'No such file or directory'
 try 'picture: an image'              21 'picture hello.loom'                'P4'
 try 'picture: an empty file'         21 'picture empty'                     'empty'
+cp hello.pbm twice.pbm
+try 'picture: over itself'           2 'picture twice.pbm twice.pbm'        'the PBM and the PNG are one file'
+same 'that picture is as it was, too' twice.pbm hello.pbm
 head -c 20 hello.pbm >cut.pbm
 try 'picture: one that is cut'       21 'picture cut.pbm'                   'cut'
 try 'picture: no scale'              2 'picture hello.pbm --scale 0'        'from 1 to 64' 'tip: 1'
@@ -224,12 +258,14 @@ if mount -t tmpfs -o size=64k small small 2>/dev/null; then
     try 'run: a full disk, the image'    11 'run hello.loom --save small/a'     'write fault: Saved' 'No space left on device'
     try 'run: a full disk, the work file' 10 'run large.loom --no-save --work small/work --steps 99999' 'work fault' 'No space left on device'
     try 'make: a full disk'              11 'make 0 small/a.loom'               'write fault: Saved' 'No space left on device'
+    try 'run: a full disk, the stop'     5 'run stuck.loom --on-stop small/b'   'stuck: cause 5 after 2' "can't be kept: write fault: Saved" 'No space left on device'
     umount small
 else
     skip 'a full disk' 'nothing can be mounted here'
 fi
 if [ -w /dev/full ]; then
     try 'run: standard output is full'   11 'run hello.loom --no-save >/dev/full 2>said' 'write fault: Transcript' 'standard output'
+    try 'run: standard output is full for the stop' 5 'run stuck.loom --on-stop - >/dev/full 2>said' 'stuck: cause 5 after 2' 'standard output' 'No space left on device'
     try 'list: standard output is full'  11 'list hello.loom >/dev/full 2>said' 'standard output' 'No space left on device'
 fi
 

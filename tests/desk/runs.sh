@@ -58,8 +58,6 @@ try 'a text into a file'             0 'list hello.loom listed.text'        'lis
 same 'that text'                     listed.text hello.text
 try 'an image of a text'             0 'asm listed.text assembled.loom'     'assembled 80 objects'
 same 'that image'                    assembled.loom hello.kept
-try 'an image over its text'         0 'asm listed.text listed.text'        'assembled 80 objects'
-same 'that image, too'               listed.text hello.kept
 "$st80" make 0 - 2>/dev/null </dev/null >piped.loom
 try 'a large image'                  0 'make 0 made.loom'                   'made 1327 objects'
 same 'a large image to standard output' piped.loom made.loom
