@@ -1,5 +1,5 @@
 -- Why calls failed, from why the calls inside them did.
-use Rattle.std.proofs.Common.{◌≡◌, ℕ, ◌-◌, ◌*◌, ◌<◌, ◌≤◌, Option, Some, None, IsTrue, IsSome, IfErr, refl, sym, subst, arith}
+use Rattle.std.proofs.Common.{◌≡◌, ℕ, ◌-◌, ◌<◌, ◌≤◌, Option, Some, None, IsTrue, IsSome, IfErr, refl, sym, subst, arith}
 use Rattle.loom_host.proofs.WorkLaws.{failed-later}
 use Rattle.loom_host.specs.declared.outside.Host.{Ghosts}
 use Rattle.loom_host.specs.declared.outside.Role.TheVariants.{Work as OfWork}
@@ -9,9 +9,8 @@ use Rattle.probing.proofs.HomeLaws.{paged_home_of-below}
 use Rattle.probing.proofs.TableLaws.{turned-below}
 use Rattle.probing.specs.Homes.{paged_home_of}
 use Rattle.work_directory.specs.declared.directory.Found.{Found}
-use Rattle.work_directory.specs.declared.limits.TheConstants.{SLOT_BYTES}
 use Rattle.work_directory.specs.Inside.{IsLookCause, IsWriteCause, last_slot, search_end}
-use Rattle.work_directory.specs.Slots.{bytes_of, IsSpelled}
+use Rattle.work_directory.specs.Slots.{bytes_of, slot_place, IsSpelled}
 use Rattle.work_directory.specs.Work.{IsDamaged, IsCause, IsSlotCause}
 use Rattle.loom_host.specs.Work.{work_of}
 
@@ -21,17 +20,17 @@ last-within n name some = turned-below (paged_home_of name n) (n - 1) n (paged_h
 
 module _ {H : Type 0} (host : Ghosts H) where
   -- damage at a slot, over a host that doesn't tell Work
-  pub damaged-at : (n at place : ℕ) → place ≡ 24 * at → at < n → (IsTrue (host.tells OfWork) → ⊥) → IsDamaged host (24 * n) place
-  damaged-at n at place here within untold = record { untold = untold; whole = omega (arith, here); below = omega (arith, here) }
+  pub damaged-at : (n at place : ℕ) → place ≡ slot_place at → at < n → (IsTrue (host.tells OfWork) → ⊥) → IsDamaged host n place
+  damaged-at n at place here within untold = record { untold = untold; slot = record { at = at; within = within; place_is = here } }
 
-  pub damaged-cause : (a c : H) (n at name : ℕ) (fault : DiskFault) → fault ≡ Damaged (24 * at) name → at < n
-      → (IsTrue (host.tells OfWork) → ⊥) → IsCause host a c (24 * n) name fault
-  damaged-cause a c n at name fault is within untold = subst (IsCause host a c (24 * n) name) (sym is)
-      (damaged-at n at (24 * at) refl within untold, refl)
+  pub damaged-cause : (a c : H) (n at name : ℕ) (fault : DiskFault) → fault ≡ Damaged (slot_place at) name → at < n
+      → (IsTrue (host.tells OfWork) → ⊥) → IsCause host a c n name fault
+  damaged-cause a c n at name fault is within untold = subst (IsCause host a c n name) (sym is)
+      (damaged-at n at (slot_place at) refl within untold, refl)
 
   pub look-cause : (a b c : H) (n at name : ℕ) (fault : DiskFault) → at < n → host.faults a OfWork ≤ host.faults b OfWork
       → (IsTrue (host.tells OfWork) → IsSpelled (bytes_of (work_of host b) at))
-      → IsLookCause host b c at (Some name) fault → IsCause host a c (24 * n) name fault
+      → IsLookCause host b c at (Some name) fault → IsCause host a c n name fault
   look-cause a b c n at name (Work count) within l spelled f = failed-later host a b c count l f
   look-cause a b c n at name (Full held room) within l spelled f = f
   look-cause a b c n at name (Damaged place about) within l spelled
@@ -58,6 +57,6 @@ module _ {H : Type 0} (host : Ghosts H) where
 
   -- a search that met no empty slot, over a host that doesn't tell Work
   pub end-cause : (a c : H) (n name : ℕ) (found : Option Found) → 0 < n → (IsTrue (host.tells OfWork) → IsSome found)
-      → IfErr (search_end found name n) (IsCause host a c (SLOT_BYTES * n) name)
+      → IfErr (search_end found name n) (IsCause host a c n name)
   end-cause a c n name (Some found) some is = tt
   end-cause a c n name None some is = damaged-cause a c n (last_slot n name) name _ refl (last-within n name some) (λ told. cc (is told))

@@ -17,7 +17,7 @@ use Rattle.work_directory.specs.declared.directory.Found.TheVariants.{Held, Vaca
 use Rattle.loom_host.specs.declared.outside.DiskFault.{DiskFault}
 use Rattle.work_directory.specs.Directory.{room_of, held_of, slots_of, was_written, entries_of, found_entry, AnswersSearch, IsIn, IsOfName, IsChanged}
 use Rattle.work_directory.specs.Inside.{Writes, Closes}
-use Rattle.work_directory.specs.Slots.{slot_at, bytes_of, IsSpelled, AreSpelled}
+use Rattle.work_directory.specs.Slots.{slot_at, slots_end, bytes_of, IsSpelled, AreSpelled}
 use Rattle.work_directory.specs.Table.{Entry, Entries, entry_of, name_at, entry_at}
 use Rattle.work_directory.specs.Work.{SameFrom}
 use Rattle.work_directory.proofs.EntryLaws.{entries_are, in-table}
@@ -66,7 +66,7 @@ some-absent o e a b = let no : ◌≡◌ {A = Option Entry} (Some e) None = sym 
 
 becomes : (d new : Directory) (v w : List ℕ) (entries : Entries) → room_of new ≡ room_of d → AreSpelled w (slots_of d)
     → IsTable paged_home_of (name_at w) (slots_of d) (held_of new) → map_of (name_at w) (entry_at w) (slots_of d) ≡ entries
-    → SameFrom (24 * slots_of d) v w → ((i : ℕ) → i < slots_of d → was_written new (i / 170) ≡ false → name_at w i ≡ 0)
+    → SameFrom (slots_end (slots_of d)) v w → ((i : ℕ) → i < slots_of d → was_written new (i / 170) ≡ false → name_at w i ≡ 0)
     → IsChanged new entries v w
 becomes d new v w entries same spelled t is behind unwritten =
     let n : slots_of d ≡ slots_of new = ap (λ r. 2 * r) (sym same) in
@@ -74,7 +74,7 @@ becomes d new v w entries same spelled t is behind unwritten =
       is_in = in-table new w (subst (AreSpelled w) n spelled) (subst (λ (k : ℕ). IsTable paged_home_of (name_at w) k (held_of new)) n t)
           (λ i l. unwritten i (omega (arith, n, l)));
       entries_are = entries_are new w ∙ ap (map_of (name_at w) (entry_at w)) (sym n) ∙ is;
-      behind = subst (λ (k : ℕ). SameFrom (24 * k) v w) n behind;
+      behind = subst (λ (k : ℕ). SameFrom (slots_end k) v w) n behind;
     }
 
 or_neither : (a b : Bool) → (a || b) ≡ false → b ≡ false

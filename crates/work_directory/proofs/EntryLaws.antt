@@ -1,5 +1,5 @@
 -- The entries of a directory in the contents of Work.
-use Rattle.std.proofs.Common.{◌≡◌, ◌≢◌, ℕ, ◌*◌, ◌/◌, ◌<◌, ◌≤◌, ◌⊎◌, Bool, true, false, List, [], Option, Some, None, refl, sym, ap, ◌∙◌, subst, arith, inl, inr}
+use Rattle.std.proofs.Common.{◌≡◌, ◌≢◌, ℕ, ◌/◌, ◌<◌, ◌≤◌, ◌⊎◌, Bool, true, false, List, [], Option, Some, None, refl, sym, ap, ◌∙◌, subst, arith, inl, inr}
 use Rattle.std.specs.FinMap as map
 use Rattle.loom_host.specs.Bytes.{overwritten}
 use Rattle.probing.specs.Homes.{paged_home_of}
@@ -12,11 +12,11 @@ use Rattle.work_directory.specs.declared.directory.Directory.{Directory}
 use Rattle.work_directory.specs.declared.directory.Found.{Found}
 use Rattle.work_directory.specs.declared.directory.Found.TheVariants.{Held, Vacant}
 use Rattle.work_directory.specs.Directory.{held_of, slots_of, was_written, end_of, entries_of, shown_at, AnswersSearch, IsIn, IsOfName}
-use Rattle.work_directory.specs.Slots.{slot_at, slot_in, used_slot, bytes_of, IsSpelled, AreSpelled}
+use Rattle.work_directory.specs.Slots.{slot_at, slot_in, slot_place, used_slot, bytes_of, IsSpelled, AreSpelled}
 use Rattle.work_directory.specs.Table.{Entry, entry_of, name_at, entry_at}
 use Rattle.work_directory.specs.Work.{SameBefore}
 use Rattle.work_directory.proofs.ContentsLaws.{window-same_before, before-written}
-use Rattle.work_directory.proofs.SlotLaws.{used_slot-some, used_slot-named, used_slot-zero, slot_at-none, spelled-none}
+use Rattle.work_directory.proofs.SlotLaws.{used_slot-some, used_slot-named, used_slot-zero, slot_at-none, slot_ends, spelled-none}
 
 pub entries_are : (d : Directory) (w : List ℕ) → entries_of d w ≡ map_of (name_at w) (entry_at w) (slots_of d)
 unfolding entries_of
@@ -35,7 +35,7 @@ in-table d w spelled t unwritten = record {
 -- ---- what stands behind is no part of it
 
 slots-same : (d : Directory) (v w : List ℕ) → SameBefore (end_of d) v w → (j : ℕ) → j < slots_of d → bytes_of w j ≡ bytes_of v j
-slots-same d v w same j l = window-same_before (end_of d) v w (24 * j) 24 same (omega arith)
+slots-same d v w same j l = window-same_before (end_of d) v w (slot_place j) 24 same (slot_ends j (slots_of d) l)
 
 slot-same : (d : Directory) (v w : List ℕ) → SameBefore (end_of d) v w → (j : ℕ) → j < slots_of d → slot_at w j ≡ slot_at v j
 unfolding slot_at

@@ -1,5 +1,5 @@
 -- Slots that were read at once.
-use Rattle.std.proofs.Common.{◌≡◌, ℕ, ◌+◌, ◌-◌, ◌*◌, ◌≤◌, List, take, drop, Option, IsTrue, sym, ap, ◌∙◌, subst, arith}
+use Rattle.std.proofs.Common.{◌≡◌, ℕ, ◌+◌, ◌-◌, ◌*◌, ◌%◌, ◌≤◌, List, take, drop, Option, IsTrue, sym, ap, ◌∙◌, subst, arith}
 use Rattle.loom_host.specs.Bytes.{window}
 use Rattle.loom_host.specs.declared.outside.DiskFault.{DiskFault}
 use Rattle.loom_host.specs.declared.outside.DiskFault.TheVariants.{Work, Full, Damaged}
@@ -11,21 +11,21 @@ use Rattle.work_directory.specs.declared.slot.Slot.{Slot}
 use Rattle.work_directory.specs.Directory.{shown_at}
 use Rattle.work_directory.specs.Inside.{HasSlot, IsPieceDamage, piece_bytes}
 use Rattle.work_directory.specs.Pieces.{IsPieceOf}
-use Rattle.work_directory.specs.Slots.{bytes_of, slot_at, slot_in, used_slot, IsSpelled}
+use Rattle.work_directory.specs.Slots.{bytes_of, slot_at, slot_in, slot_place, used_slot, IsSpelled}
 use Rattle.work_directory.specs.Work.{IsSlotCause}
 
 pub empty-piece : (work : List ℕ) (p : Piece) → p.count ≡ 0 → IsPieceOf work p
 unfolding IsPieceOf
 empty-piece work p none = λ i has. let l = has.low in let h = has.high in absurd (omega (arith, none))
 
-pub filled-piece : (work : List ℕ) (p : Piece) (place : ℕ) → p.count ≡ 170 → place ≡ 24 * p.first → p.bytes ≡ window work place 4080
+pub filled-piece : (work : List ℕ) (p : Piece) (place : ℕ) → p.count ≡ 170 → p.first % 170 ≡ 0 → place ≡ slot_place p.first → p.bytes ≡ window work place 4080
     → IsPieceOf work p
 unfolding IsPieceOf
-filled-piece work p place all here is = λ i has.
+filled-piece work p place all begins here is = λ i has.
     let l = has.low in
     let h = has.high in
     let last : 24 * (i - p.first) + 24 ≤ 4080 = omega (arith, all) in
-    let at : place + 24 * (i - p.first) ≡ 24 * i = omega (arith, here) in
+    let at : place + 24 * (i - p.first) ≡ slot_place i = omega (arith, all, begins, here) in
     ap (λ (t : List ℕ). take 24 (drop (24 * (i - p.first)) t)) is
     ∙ window-taken work place 4080 (24 * (i - p.first)) 24 last
     ∙ ap (λ k. window work k 24) at

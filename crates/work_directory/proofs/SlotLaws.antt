@@ -1,5 +1,5 @@
 -- Slots as bytes.
-use Rattle.std.proofs.Common.{◌≡◌, ◌≢◌, ℕ, ◌+◌, ◌*◌, ◌%◌, ◌<◌, ◌≤◌, ◌⊎◌, ◌==◌, true, false, cond, List, [], length, ◌++◌, drop, replicate, Option, Some, None, refl, sym, ap, ◌∙◌, subst, arith, inl, inr}
+use Rattle.std.proofs.Common.{◌≡◌, ◌≢◌, ℕ, ◌+◌, ◌%◌, ◌<◌, ◌≤◌, ◌⊎◌, ◌==◌, true, false, cond, List, [], length, ◌++◌, drop, replicate, Option, Some, None, refl, sym, ap, ◌∙◌, subst, arith, inl, inr}
 use Rattle.std.proofs.lemmas.Bool.Decides.{nat_tests}
 use Rattle.byteorder.specs.Endian.{big_bytes, big_number}
 use Rattle.byteorder.specs.Numbers.{big_number-reads_back}
@@ -8,16 +8,23 @@ use Rattle.loom_host.proofs.Windows.{window-overwritten_same, window-overwritten
 use Rattle.probing.specs.Search.{Puts}
 use Rattle.probing.proofs.TableLaws.{below_or_past, equal_or_not, puts-part}
 use Rattle.work_directory.specs.declared.slot.Slot.{Slot}
-use Rattle.work_directory.specs.Slots.{spelling, slot_in, slot_at, used_slot, bytes_of, IsSpelled, AreSpelled, FitsBytes}
+use Rattle.work_directory.specs.Slots.{spelling, slot_in, slot_at, slot_place, slots_end, used_slot, bytes_of, IsSpelled, AreSpelled, FitsBytes}
 use Rattle.work_directory.specs.Inside.{Writes}
 use Rattle.work_directory.specs.Table.{entry_of, name_at, entry_at}
 use Rattle.work_directory.specs.Work.{SameFrom}
 
-slots_apart : (i j : ℕ) → i ≢ j → (24 * i + 24 ≤ 24 * j) ⊎ (24 * j + 24 ≤ 24 * i)
+-- a slot lies before each later one, and before the end
+slot_before : (i j : ℕ) → i < j → slot_place i + 24 ≤ slot_place j
+slot_before i j l = omega arith
+
+pub slot_ends : (i n : ℕ) → i < n → slot_place i + 24 ≤ slots_end n
+slot_ends i n l = omega arith
+
+slots_apart : (i j : ℕ) → i ≢ j → (slot_place i + 24 ≤ slot_place j) ⊎ (slot_place j + 24 ≤ slot_place i)
 slots_apart i j h = by_order (below_or_past i j) where
-  by_order : (i < j) ⊎ (j ≤ i) → (24 * i + 24 ≤ 24 * j) ⊎ (24 * j + 24 ≤ 24 * i)
-  by_order (inl l) = inl (omega arith)
-  by_order (inr l) = inr (omega arith)
+  by_order : (i < j) ⊎ (j ≤ i) → (slot_place i + 24 ≤ slot_place j) ⊎ (slot_place j + 24 ≤ slot_place i)
+  by_order (inl l) = inl (slot_before i j l)
+  by_order (inr l) = inr (slot_before j i (omega arith))
 
 pub slot_in-spelling : (slot : Slot) → FitsBytes slot → slot_in (spelling slot) ≡ slot
 slot_in-spelling slot fits =
@@ -36,33 +43,33 @@ spelling-is_spelled slot fits even = record {
 
 -- 24 bytes that are written stand there, and the others stay
 module _ (work : List ℕ) (n at : ℕ) (bytes : List ℕ) (size : length bytes ≡ 24) (within : at < n) where
-  same_here : bytes_of (overwritten work (24 * at) bytes) at ≡ bytes
-  same_here = ap (λ k. window (overwritten work (24 * at) bytes) (24 * at) k) (sym size) ∙ window-overwritten_same work (24 * at) bytes
+  same_here : bytes_of (overwritten work (slot_place at) bytes) at ≡ bytes
+  same_here = ap (λ k. window (overwritten work (slot_place at) bytes) (slot_place at) k) (sym size) ∙ window-overwritten_same work (slot_place at) bytes
 
-  same_there : (j : ℕ) → j ≢ at → bytes_of (overwritten work (24 * at) bytes) j ≡ bytes_of work j
-  same_there j other = window-overwritten_apart work (24 * at) bytes (24 * j) 24 (rw size (slots_apart j at other))
+  same_there : (j : ℕ) → j ≢ at → bytes_of (overwritten work (slot_place at) bytes) j ≡ bytes_of work j
+  same_there j other = window-overwritten_apart work (slot_place at) bytes (slot_place j) 24 (rw size (slots_apart j at other))
 
-  writes_slots : Puts (slot_at work) (slot_at (overwritten work (24 * at) bytes)) n at (slot_in bytes)
+  writes_slots : Puts (slot_at work) (slot_at (overwritten work (slot_place at) bytes)) n at (slot_in bytes)
   unfolding slot_at
   writes_slots = record { here = ap slot_in same_here; others = λ j l other. ap slot_in (same_there j other) }
 
-  writes_spelled : IsSpelled bytes → AreSpelled work n → AreSpelled (overwritten work (24 * at) bytes) n
+  writes_spelled : IsSpelled bytes → AreSpelled work n → AreSpelled (overwritten work (slot_place at) bytes) n
   unfolding AreSpelled
   writes_spelled is all = λ i l. by_place i l (equal_or_not i at) where
-    by_place : (i : ℕ) → i < n → (i ≡ at) ⊎ (i ≢ at) → IsSpelled (bytes_of (overwritten work (24 * at) bytes) i)
-    by_place i l (inl here) = subst IsSpelled (sym (ap (bytes_of (overwritten work (24 * at) bytes)) here ∙ same_here)) is
+    by_place : (i : ℕ) → i < n → (i ≡ at) ⊎ (i ≢ at) → IsSpelled (bytes_of (overwritten work (slot_place at) bytes) i)
+    by_place i l (inl here) = subst IsSpelled (sym (ap (bytes_of (overwritten work (slot_place at) bytes)) here ∙ same_here)) is
     by_place i l (inr away) = subst IsSpelled (sym (same_there i away)) (all i l)
 
-  writes_behind : SameFrom (24 * n) work (overwritten work (24 * at) bytes)
+  writes_behind : SameFrom (slots_end n) work (overwritten work (slot_place at) bytes)
   writes_behind = record {
-    bytes = λ k past. get_or-overwritten work (24 * at) bytes k ∙ byte_after_outside work (24 * at) bytes k (inr (omega (arith, size)));
-    end = let e = length-overwritten work (24 * at) bytes in omega (arith, e, size);
+    bytes = λ k past. get_or-overwritten work (slot_place at) bytes k ∙ byte_after_outside work (slot_place at) bytes k (inr (let l = slot_ends at n within in omega (arith, l, size)));
+    end = let e = length-overwritten work (slot_place at) bytes in let l = slot_ends at n within in omega (arith, e, l, size);
   }
 
-  writes_all : IsSpelled bytes → Writes work (overwritten work (24 * at) bytes) n at (slot_in bytes)
+  writes_all : IsSpelled bytes → Writes work (overwritten work (slot_place at) bytes) n at (slot_in bytes)
   writes_all is = record { puts = writes_slots; spelled = writes_spelled is; behind = writes_behind }
 
-pub writes : (work new : List ℕ) (n at place : ℕ) (bytes : List ℕ) → length bytes ≡ 24 → at < n → IsSpelled bytes → place ≡ 24 * at
+pub writes : (work new : List ℕ) (n at place : ℕ) (bytes : List ℕ) → length bytes ≡ 24 → at < n → IsSpelled bytes → place ≡ slot_place at
     → new ≡ overwritten work place bytes → Writes work new n at (slot_in bytes)
 writes work new n at place bytes size within is here made =
     subst (λ (w : List ℕ). Writes work w n at (slot_in bytes)) (sym (made ∙ ap (λ k. overwritten work k bytes) here))

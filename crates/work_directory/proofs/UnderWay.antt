@@ -1,14 +1,14 @@
 -- A slot is taken out of Work, step by step, by the values that the code has.
 -- Bytes of a directory come in by `Writes`, one record for one written slot. Removal is carried by `IsUnderWay`, with one law
 -- each for its start, a slot that stays, one that moves, and its end.
-use Rattle.std.proofs.Common.{◌≡◌, ◌≢◌, ℕ, ◌+◌, ◌*◌, ◌<◌, ◌≤◌, List, Some, None, refl, sym, ap, ◌∙◌, subst}
+use Rattle.std.proofs.Common.{◌≡◌, ◌≢◌, ℕ, ◌+◌, ◌<◌, ◌≤◌, List, Some, None, refl, sym, ap, ◌∙◌, subst}
 use Rattle.probing.proofs.HomeLaws.{paged_home_of-below}
 use Rattle.probing.specs.Search.{Puts}
 use Rattle.probing.specs.Homes.{paged_home_of}
 use Rattle.probing.specs.Table.{IsTable, turned, apart}
 use Rattle.probing.proofs.ClosingLaws.{IsClosing, closing_start, step_left, step_moved, step_end}
 use Rattle.work_directory.specs.declared.slot.Slot.{Slot}
-use Rattle.work_directory.specs.Slots.{no_slot, slot_at, used_slot, AreSpelled}
+use Rattle.work_directory.specs.Slots.{no_slot, slot_at, slots_end, used_slot, AreSpelled}
 use Rattle.work_directory.specs.Table.{name_at, entry_at, entry_of}
 use Rattle.work_directory.specs.Inside.{Writes, Closes}
 use Rattle.work_directory.specs.Work.{SameFrom}
@@ -19,14 +19,14 @@ use Rattle.work_directory.proofs.SlotLaws.{used_slot-none, used_slot-some, puts-
 pub record IsUnderWay (v w : List ℕ) (n count at hole gap step : ℕ) : Type 0 where
   pub closing : IsClosing paged_home_of (name_at v) (name_at w) (entry_at v) (entry_at w) n count at hole gap step
   pub spelled : AreSpelled w n
-  pub behind : SameFrom (24 * n) v w
+  pub behind : SameFrom (slots_end n) v w
 
 pub start : (v : List ℕ) (n count at : ℕ) → AreSpelled v n → IsTable paged_home_of (name_at v) n count → at < n → (slot_at v at).name ≢ 0
     → IsUnderWay v v n count at at 1 1
 start v n count at spelled t within some = record {
   closing = closing_start paged_home_of-below (name_at v) (entry_at v) n count at t within some;
   spelled = spelled;
-  behind = same-itself (24 * n) v;
+  behind = same-itself (slots_end n) v;
 }
 
 -- the slot at a place was read, and Work is w as it was
@@ -65,7 +65,7 @@ module _ (v u w : List ℕ) (n count at hole gap step place : ℕ) (way : IsUnde
           (puts-name w x n hole slot wrote.puts)
           (subst (λ e. Puts (entry_at w) (entry_at x) n hole e) (ap entry_of slot_is) (puts-entry w x n hole slot wrote.puts));
       spelled = wrote.spelled way_now.spelled;
-      behind = same-again (24 * n) v w x way_now.behind wrote.behind;
+      behind = same-again (slots_end n) v w x way_now.behind wrote.behind;
     }
 
   pub ends : (x : List ℕ) → None ≡ used_slot (slot_at u place) → Writes w x n hole no_slot → Closes v x n count at
@@ -75,5 +75,5 @@ module _ (v u w : List ℕ) (n count at hole gap step place : ℕ) (way : IsUnde
         (ap (λ (y : List ℕ). name_at y place) still ∙ used_slot-none (slot_at u place) read)
         (puts-name w x n hole no_slot wrote.puts) (puts-entry w x n hole no_slot wrote.puts);
     spelled = wrote.spelled way_now.spelled;
-    behind = same-again (24 * n) v w x way_now.behind wrote.behind;
+    behind = same-again (slots_end n) v w x way_now.behind wrote.behind;
   }

@@ -9,11 +9,10 @@ use Rattle.probing.specs.Search.{IsVacancy}
 use Rattle.probing.specs.Table.{map_of, IsTable}
 use Rattle.work_directory.specs.declared.directory.Found.{Found}
 use Rattle.work_directory.specs.declared.directory.Found.TheVariants.{Held, Vacant}
-use Rattle.work_directory.specs.declared.limits.TheConstants.{SLOT_BYTES}
 use Rattle.work_directory.specs.declared.slot.Slot.{Slot}
 use Rattle.work_directory.specs.declared.directory.Directory.{Directory}
 use Rattle.work_directory.specs.Marks.{has_mark}
-use Rattle.work_directory.specs.Slots.{slot_at, used_slot, AreSpelled}
+use Rattle.work_directory.specs.Slots.{slot_at, slots_end, used_slot, AreSpelled}
 use Rattle.work_directory.specs.Table.{Entry, Entries, entry_of, name_at, entry_at}
 use Rattle.work_directory.specs.Work.{SameFrom}
 use Rattle.loom_host.specs.Work.{work_of}
@@ -41,9 +40,9 @@ first_slot d block = min (BLOCK_SLOTS * block) (slots_of d)
 unfoldable pub was_written : Directory → ℕ → Bool
 was_written d block = has_mark d.written block
 
--- the place behind its last slot
+-- the place behind the page of its last block
 abbrev pub end_of : Directory → ℕ
-end_of d = SLOT_BYTES * slots_of d
+end_of d = slots_end (slots_of d)
 
 -- the entries that it has in these contents of Work
 unfoldable pub entries_of : Directory → List ℕ → Entries

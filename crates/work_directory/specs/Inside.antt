@@ -11,7 +11,7 @@ use Rattle.work_directory.specs.declared.directory.Found.{Found}
 use Rattle.work_directory.specs.declared.piece.Piece.{Piece}
 use Rattle.work_directory.specs.declared.slot.Slot.{Slot}
 use Rattle.work_directory.specs.declared.limits.TheConstants.{SLOT_BYTES}
-use Rattle.work_directory.specs.Slots.{slot_at, bytes_of, IsSpelled, AreSpelled}
+use Rattle.work_directory.specs.Slots.{slot_at, slot_place, slots_end, bytes_of, IsSpelled, AreSpelled}
 use Rattle.work_directory.specs.Table.{name_at, entry_at}
 use Rattle.work_directory.specs.Work.{SameFrom}
 use Rattle.loom_host.specs.Work.{work_of, HasFailed}
@@ -20,20 +20,20 @@ use Rattle.loom_host.specs.Work.{work_of, HasFailed}
 pub record Writes (v w : List ℕ) (n at : ℕ) (slot : Slot) : Type 0 where
   pub puts : Puts (slot_at v) (slot_at w) n at slot
   pub spelled : AreSpelled v n → AreSpelled w n
-  pub behind : SameFrom (SLOT_BYTES * n) v w
+  pub behind : SameFrom (slots_end n) v w
 
 -- w is v with that slot taken out and closed up
 pub record Closes (v w : List ℕ) (n count at : ℕ) : Type 0 where
   pub closed : IsClosedUp paged_home_of (name_at v) (name_at w) (entry_at v) (entry_at w) n count at
   pub spelled : AreSpelled w n
-  pub behind : SameFrom (SLOT_BYTES * n) v w
+  pub behind : SameFrom (slots_end n) v w
 
 -- why a look at a slot failed
 abbrev pub IsLookCause : {H : Type 0} → Ghosts H → H → H → ℕ → Option ℕ → DiskFault → Type 0
 IsLookCause host old new at sought (Work count) = HasFailed host old new count
 IsLookCause host old new at sought (Full held room) = ⊥
 IsLookCause host old new at sought (Damaged place about) = (IsTrue (host.tells OfWork) → IsSpelled (bytes_of (work_of host old) at)
-    → ⊥) × (place ≡ SLOT_BYTES * at) × IfSome sought (λ name. about ≡ name)
+    → ⊥) × (place ≡ slot_place at) × IfSome sought (λ name. about ≡ name)
 
 -- why a write failed
 abbrev pub IsWriteCause : {H : Type 0} → Ghosts H → H → H → DiskFault → Type 0
@@ -48,7 +48,7 @@ last_slot n name = turned (paged_home_of name n) (n - 1) n
 -- where a search through all n slots ended; where it met no empty slot, damage is told of the one that it read last
 abbrev pub search_end : Option Found → ℕ → ℕ → Result Found DiskFault
 search_end (Some found) name n = Ok found
-search_end None name n = Err (Damaged (SLOT_BYTES * last_slot n name) name)
+search_end None name n = Err (Damaged (slot_place (last_slot n name)) name)
 
 -- ---- slots that were read at once
 
@@ -65,4 +65,4 @@ piece_bytes p i = take SLOT_BYTES (drop (SLOT_BYTES * (i - p.first)) p.bytes)
 abbrev pub IsPieceDamage : Piece → ℕ → DiskFault → Type 0
 IsPieceDamage p i (Work count) = ⊥
 IsPieceDamage p i (Full held room) = ⊥
-IsPieceDamage p i (Damaged place about) = (IsSpelled (piece_bytes p i) → ⊥) × (place ≡ SLOT_BYTES * i)
+IsPieceDamage p i (Damaged place about) = (IsSpelled (piece_bytes p i) → ⊥) × (place ≡ slot_place i)

@@ -1,8 +1,9 @@
 -- The slots of a directory, as bytes: a name of 4, four zeros, a count of 8 and a place of 8, each number highest byte first.
-use Rattle.std.specs.Prelude.{◌≡◌, ℕ, ◌*◌, ◌^◌, ◌%◌, ◌<◌, ◌==◌, List, ◌++◌, drop, replicate, Option, None, Some, if◌then◌else◌}
+use Rattle.std.specs.Prelude.{◌≡◌, ℕ, ◌+◌, ◌*◌, ◌^◌, ◌/◌, ◌%◌, ◌<◌, ◌==◌, List, ◌++◌, drop, replicate, Option, None, Some, if◌then◌else◌}
 use Rattle.byteorder.specs.Endian.{big_bytes, big_number}
 use Rattle.loom_host.specs.Bytes.{window}
-use Rattle.work_directory.specs.declared.limits.TheConstants.{SLOT_BYTES}
+use Rattle.probing.specs.declared.TheConstants.{BLOCK_SLOTS}
+use Rattle.work_directory.specs.declared.limits.TheConstants.{SLOT_BYTES, PAGE_BYTES}
 use Rattle.work_directory.specs.declared.slot.Slot.{Slot}
 
 -- an empty slot. No object has the name 0
@@ -22,9 +23,23 @@ pub record IsSpelled (bytes : List ℕ) : Type 0 where
   pub zeros : big_number 4 (drop 4 bytes) ≡ 0
   pub even : big_number 4 bytes % 2 ≡ 0
 
+-- where slot i begins: each block of slots has a page
+abbrev pub slot_place : ℕ → ℕ
+slot_place i = PAGE_BYTES * (i / BLOCK_SLOTS) + SLOT_BYTES * (i % BLOCK_SLOTS)
+
+-- the place behind the pages of n slots
+abbrev pub slots_end : ℕ → ℕ
+slots_end n = PAGE_BYTES * (n / BLOCK_SLOTS + 1)
+
+-- one of n slots begins at this place
+pub record IsSlotOf (n place : ℕ) : Type 0 where
+  pub at : ℕ
+  pub within : at < n
+  pub place_is : place ≡ slot_place at
+
 -- the bytes of slot i
 abbrev pub bytes_of : List ℕ → ℕ → List ℕ
-bytes_of work i = window work (SLOT_BYTES * i) SLOT_BYTES
+bytes_of work i = window work (slot_place i) SLOT_BYTES
 
 -- slot i of Work
 unfoldable pub slot_at : List ℕ → ℕ → Slot

@@ -3,16 +3,16 @@ ghost use Rattle.std.specs.Prelude.{◌≡◌, ◌<◌, ◌≤◌, ◌*◌, ◌^
 ghost use Rattle.work_directory.specs.Inside.{search_end};
 ghost use Rattle.work_directory.specs.declared.limits.TheConstants.{MOST_NAMES};
 
-use crate::limits::{MOST_NAMES, SLOT_BYTES};
+use crate::limits::{MOST_NAMES, PAGE_BYTES};
 use crate::marks::Marks;
 use crate::piece::Piece;
-use crate::slot::{Slot, clear, damaged, look, place_of, put};
+use crate::slot::{Slot, clear, damaged, look, put};
 use long_names::Name;
 use loom_host::{DiskFault, Host};
 use probing::{BLOCK_SLOTS, distance, paged_home, turn};
 
 /// The directory of the work file: the counts and places of the objects on disk. It has twice as many slots of 24 bytes as it has room
-/// for names, from the first byte of Work on. A name is looked for from its home on, slot by slot and around the end, up to an empty
+/// for names, from the first byte of Work on, each block of 170 in a page of its own. A name is looked for from its home on, slot by slot and around the end, up to an empty
 /// slot; where one is removed, those behind it that a search would miss move up. Names that were made one after another have their
 /// homes in one block of slots, and of each block it is known whether it was ever written.
 ///
@@ -113,12 +113,12 @@ impl Directory {
         2 * self.room
     }
 
-    /// The byte of Work behind its last slot: 48 times its room.
+    /// The byte of Work behind the page of its last block, from which on it has nothing.
     pub fn end(&self) -> u64
         ensures value { result ≡ end_of self.now }
-        ensures most { result ≤ SLOT_BYTES * (2 * MOST_NAMES) }
+        ensures most { result ≤ PAGE_BYTES * (2 * MOST_NAMES / BLOCK_SLOTS + 1) }
     {
-        place_of(self.slots())
+        PAGE_BYTES as u64 * u64::from(self.blocks())
     }
 
     // Looks for a name, slot by slot: None where it met no empty slot.
@@ -128,7 +128,7 @@ impl Directory {
         ensures found { IfOk result (λ found. IsTrue (H.tells Role.Work) → IfSome found (AnswersSearch (work_of H.Host host.old) (slots_of self.now) name)) }
         ensures some { IfOk result (λ found. IsTrue (H.tells Role.Work) → IsSome found) }
         ensures read { IsWorkRead H.Host host.old host.new }
-        ensures cause { IfErr result (IsCause H.Host host.old host.new (end_of self.now) name) }
+        ensures cause { IfErr result (IsCause H.Host host.old host.new (slots_of self.now) name) }
     {
         let slots = self.slots();
         let home = paged_home(name.get(), slots);
@@ -150,7 +150,7 @@ impl Directory {
         ensures name { IfOk result (IsOfName (slots_of self.now) name) }
         ensures found { IfOk result (λ found. IsTrue (H.tells Role.Work) → AnswersSearch (work_of H.Host host.old) (slots_of self.now) name found) }
         ensures read { IsWorkRead H.Host host.old host.new }
-        ensures cause { IfErr result (IsCause H.Host host.old host.new (end_of self.now) name) }
+        ensures cause { IfErr result (IsCause H.Host host.old host.new (slots_of self.now) name) }
     {
         let found = self.scan(host, name)?;
         search_end(found, name, self.slots())
@@ -164,7 +164,7 @@ impl Directory {
         ensures at { IfOk result (λ found. IsTrue (H.tells Role.Work) → AnswersSearch (work_of H.Host host.old) (slots_of self.now) name found) }
         ensures name { IfOk result (IsOfName (slots_of self.now) name) }
         ensures read { IsWorkRead H.Host host.old host.new }
-        ensures cause { IfErr result (IsCause H.Host host.old host.new (end_of self.now) name) }
+        ensures cause { IfErr result (IsCause H.Host host.old host.new (slots_of self.now) name) }
     {
         self.search(host, name)
     }
@@ -175,7 +175,7 @@ impl Directory {
         ensures found { IfOk result (λ slot. IsTrue (H.tells Role.Work) → option_map entry_of slot ≡ map.get (entries_in H.Host host.old self.now) name) }
         ensures name { IfOk result (λ slot. IfSome slot (λ s. s.name ≡ name)) }
         ensures read { IsWorkRead H.Host host.old host.new }
-        ensures cause { IfErr result (IsCause H.Host host.old host.new (end_of self.now) name) }
+        ensures cause { IfErr result (IsCause H.Host host.old host.new (slots_of self.now) name) }
     {
         match self.seek(host, name)? {
             Found::Held { slot, .. } => Ok(Some(slot)),
@@ -222,8 +222,8 @@ impl Directory {
         look(host, i, None)
     }
 
-    /// The same by a piece: where it doesn't have the slot, it is read with those behind it. So a look at each slot in turn takes one
-    /// read for many, and none for a block that was never written. The piece is as Work was when it was read, so nothing may have been
+    /// The same by a piece: where it doesn't have the slot, the slot's block is read. So a look at each slot in turn takes one read for a
+    /// block, and none for one that was never written. The piece is as Work was when it was read, so nothing may have been
     /// written since.
     pub fn slot_by<H: Host>(
         &self,
@@ -259,7 +259,7 @@ impl Directory {
         ensures room { room_of self.new ≡ room_of self.old }
         ensures full { held_of self.old ≡ room_of self.old → (result ≡ Err (Full (held_of self.old) (room_of self.old))) × (host.new ≡ host.old) }
         ensures work { IsWorkOnly H.Host host.old host.new }
-        ensures cause { held_of self.old ≢ room_of self.old → IfErr result (IsCause H.Host host.old host.new (end_of self.old) slot.name) }
+        ensures cause { held_of self.old ≢ room_of self.old → IfErr result (IsCause H.Host host.old host.new (slots_of self.old) slot.name) }
     {
         if self.held == self.room {
             return Err(DiskFault::Full {
@@ -285,7 +285,7 @@ impl Directory {
         ensures still { OnErr result (self.new ≡ self.old) }
         ensures room { room_of self.new ≡ room_of self.old }
         ensures work { IsWorkOnly H.Host host.old host.new }
-        ensures cause { IfErr result (IsCause H.Host host.old host.new (end_of self.old) slot.name) }
+        ensures cause { IfErr result (IsCause H.Host host.old host.new (slots_of self.old) slot.name) }
     {
         put(host, at, &slot)?;
         self.held += 1;
@@ -301,7 +301,7 @@ impl Directory {
         ensures set { OnOk result (Becomes H.Host host.old host.new self.new (map.insert (entries_in H.Host host.old self.old) slot.name (entry_of slot))) }
         ensures still { self.new ≡ self.old }
         ensures work { IsWorkOnly H.Host host.old host.new }
-        ensures cause { IfErr result (IsCause H.Host host.old host.new (end_of self.old) slot.name) }
+        ensures cause { IfErr result (IsCause H.Host host.old host.new (slots_of self.old) slot.name) }
     {
         match self.search(host, slot.name)? {
             Found::Held { at, .. } => put(host, at, &slot),
@@ -317,7 +317,7 @@ impl Directory {
         ensures set { OnOk result (Becomes H.Host host.old host.new self.new (map.insert (entries_in H.Host host.old self.old) slot.name (entry_of slot))) }
         ensures still { self.new ≡ self.old }
         ensures work { IsWorkOnly H.Host host.old host.new }
-        ensures cause { IfErr result (IsCause H.Host host.old host.new (end_of self.old) slot.name) }
+        ensures cause { IfErr result (IsCause H.Host host.old host.new (slots_of self.old) slot.name) }
     {
         put(host, at, &slot)
     }
@@ -333,7 +333,7 @@ impl Directory {
         ensures still { OnErr result (self.new ≡ self.old) }
         ensures room { room_of self.new ≡ room_of self.old }
         ensures work { IsWorkOnly H.Host host.old host.new }
-        ensures cause { IfErr result (IsCause H.Host host.old host.new (end_of self.old) name) }
+        ensures cause { IfErr result (IsCause H.Host host.old host.new (slots_of self.old) name) }
     {
         let at = match self.search(host, name)? {
             Found::Held { at, .. } => at,
@@ -354,7 +354,7 @@ impl Directory {
         requires used { IsTrue (H.tells Role.Work) → (slot_at (work_of H.Host host.old) at).name ≢ 0 }
         ensures closed { OnOk result (IsTrue (H.tells Role.Work) → Closes (work_of H.Host host.old) (work_of H.Host host.new) (slots_of self.now) (held_of self.now) at) }
         ensures work { IsWorkOnly H.Host host.old host.new }
-        ensures cause { IfErr result (IsCause H.Host host.old host.new (end_of self.now) name) }
+        ensures cause { IfErr result (IsCause H.Host host.old host.new (slots_of self.now) name) }
     {
         let slots = self.slots();
         let mut hole = at;

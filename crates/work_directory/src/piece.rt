@@ -7,10 +7,10 @@ use crate::slot::{Slot, failed, parse, place_of};
 use loom_host::{DiskFault, Host};
 use probing::BLOCK_SLOTS;
 
-// So many slots are read at once as a block has.
+// The slots of a block are read at once.
 const PIECE_BYTES: usize = SLOT_BYTES * BLOCK_SLOTS as usize;
 
-/// Slots of a directory, one after another, that one read of Work brought. A new one has none.
+/// The slots of a block of a directory, which one read of Work brought. A new one has none.
 #[derive(Drop)]
 pub struct Piece {
     first: u32,
@@ -45,17 +45,18 @@ impl Piece {
         self.first <= i && i - self.first < self.count
     }
 
-    // Reads slot `i` and those behind it.
+    // Reads the block of slot `i`.
     fn fill<H: Host>(&mut self, host: &mut H, i: u32) -> Result<(), DiskFault>
         ensures there { OnOk result (HasSlot self.new i) }
         ensures piece { IsTrue (H.tells Role.Work) → IsPieceOf (work_of H.Host host.old) self.new }
         ensures read { IsWorkRead H.Host host.old host.new }
         ensures fault { IfErr result (IsWorkFault (H.faults host.old Role.Work) (H.faults host.new Role.Work)) }
     {
+        let first = i - i % BLOCK_SLOTS;
         self.count = 0;
-        match host.read_at(place_of(i), &mut self.bytes) {
+        match host.read_at(place_of(first), &mut self.bytes) {
             Ok(()) => {
-                self.first = i;
+                self.first = first;
                 self.count = BLOCK_SLOTS;
                 Ok(())
             }
@@ -63,7 +64,7 @@ impl Piece {
         }
     }
 
-    // Has slot `i` then: it is read, with those behind it, where the piece doesn't have it.
+    // Has slot `i` then: its block is read where the piece doesn't have it.
     pub(crate) fn turn_to<H: Host>(&mut self, host: &mut H, i: u32) -> Result<(), DiskFault>
         requires piece { IsTrue (H.tells Role.Work) → IsPieceOf (work_of H.Host host.old) self.old }
         ensures there { OnOk result (HasSlot self.new i) }

@@ -1,14 +1,15 @@
 // Slots, as they stand in Work. What was read is tested before it is believed.
-ghost use Rattle.std.specs.Prelude.{◌≡◌, ◌*◌, ◌<◌, ℕ, length, IfOk, IfErr, OnOk, OnErr, IsTrue};
+ghost use Rattle.std.specs.Prelude.{◌≡◌, ◌<◌, ℕ, length, IfOk, IfErr, OnOk, OnErr, IsTrue};
 ghost use Rattle.loom_host.specs.declared.outside.DiskFault.TheVariants.{Damaged};
 ghost use Rattle.work_directory.specs.Inside.{Writes, IsLookCause, IsWriteCause};
-ghost use Rattle.work_directory.specs.Slots.{no_slot, spelling, slot_in, slot_at, used_slot, IsSpelled, FitsBytes};
+ghost use Rattle.work_directory.specs.Slots.{no_slot, spelling, slot_in, slot_at, slot_place, used_slot, IsSpelled, FitsBytes};
 ghost use Rattle.loom_host.specs.Work.{work_of, IsWorkOnly, IsWorkRead};
 
-use crate::limits::SLOT_BYTES;
+use crate::limits::{PAGE_BYTES, SLOT_BYTES};
 use byteorder::{BigEndian, ByteOrder};
 use long_names::Name;
 use loom_host::{DiskFault, Host, Role};
+use probing::BLOCK_SLOTS;
 
 /// What a directory has under a name.
 #[derive(Clone, Copy, Debug, PartialEq, Eq)]
@@ -23,16 +24,17 @@ pub struct Slot {
 // The byte of Work where slot `at` begins.
 #[inline(always)]
 pub(crate) fn place_of(at: u32) -> u64
-    ensures { result ≡ SLOT_BYTES * at }
+    ensures { result ≡ slot_place at }
 {
-    SLOT_BYTES as u64 * u64::from(at)
+    PAGE_BYTES as u64 * u64::from(at / BLOCK_SLOTS)
+        + SLOT_BYTES as u64 * u64::from(at % BLOCK_SLOTS)
 }
 
 /// The fault that what stands at slot `at` can't be so. It is told about a name.
 #[cold]
 #[inline(never)]
 pub fn damaged(at: u32, name: Name) -> DiskFault
-    ensures { result ≡ Damaged (SLOT_BYTES * at) name }
+    ensures { result ≡ Damaged (slot_place at) name }
 {
     DiskFault::Damaged {
         place: place_of(at),

@@ -1,5 +1,6 @@
 -- What a host with windows tells after a call.
 use Rattle.std.proofs.Common.{◌≡◌, ◌≢◌, ◌⊎◌, inl, inr, ℕ, List, Bool, true, false, true≢false, Result, Ok, Err, OnOk, refl, sym, ap, ◌∙◌}
+use Rattle.std.specs.Prelude.{is_ok, IsTrue, []}
 use Rattle.loom_host.specs.Outside.{RoleState, IsFresh, holds}
 use Rattle.loom_host.specs.declared.outside.Role.{Role}
 use Rattle.loom_host.specs.declared.outside.Role.TheVariants.{Image, Events, Work, Saved, Display, Transcript, Notes}
@@ -57,6 +58,11 @@ fresh-over f ws limit Saved is fresh = fresh
 fresh-over f ws limit Display is fresh = fresh
 fresh-over f ws limit Transcript is fresh = fresh
 fresh-over f ws limit Notes is fresh = fresh
+
+-- an attach that went through leaves Work empty
+pub emptied : {T E : Type 0} (r : Result T E) (went : Bool) (s t : RoleState) → went ≡ is_ok r → IsTrue went → s ≡ t → OnOk r (IsFresh s) → t.contents ≡ []
+emptied (Ok x) went s t is true_ same fresh = ap (λ (u : RoleState). u.contents) (sym same) ∙ fresh.contents
+emptied (Err e) went s t is true_ same fresh = absurd (true≢false (sym true_ ∙ is))
 
 pub on-ok : {T E : Type 0} {P Q : Type 0} (r : Result T E) → (P → Q) → OnOk r P → OnOk r Q
 on-ok (Ok x) f p = f p

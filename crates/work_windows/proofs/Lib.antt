@@ -1,3 +1,4 @@
+mod BlankLaws
 mod CoverLaws
 mod HostLaws
 mod KeptLaws

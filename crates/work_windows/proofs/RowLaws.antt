@@ -1,10 +1,12 @@
 -- What both rows of windows show, and what a step leaves of it.
-use Rattle.std.proofs.Common.{inl, inr, Result, Ok, Err, OnOk, get_or, length-append, ◌≡◌, ℕ, ◌+◌, ◌≤◌, ◌-◌, ◌++◌, List, [], length, take, drop, subst, sym, ap, ◌∙◌, arith}
+use Rattle.std.proofs.Common.{inl, inr, true, Result, Ok, Err, OnOk, get_or, length-append, ◌≡◌, ℕ, ◌+◌, ◌≤◌, ◌-◌, ◌++◌, List, [], length, take, drop, subst, sym, ap, ◌∙◌, arith}
 use Rattle.std.proofs.lemmas.List.{length-take, length-drop, take_all, take-append-drop, get_or_append_left, get_or-append_right}
 use Rattle.loom_host.proofs.Windows.{below_or_past, length-window, get_or-window, window-by_bytes}
 use Rattle.loom_host.specs.Bytes.{window, overwritten}
 use Rattle.work_windows.proofs.ListLaws.{none-show, overwritten-twice}
 use Rattle.work_windows.proofs.OverLaws.{empty_over, over-is, over-kept}
+use Rattle.work_windows.proofs.BlankLaws.{none-blank}
+use Rattle.work_windows.specs.Blanks.{may_hold}
 use Rattle.work_windows.specs.Rows.{Stands}
 use Rattle.work_windows.specs.Windows.{AllShow, kept_at, overlaid}
 use Rattle.work_windows.specs.declared.windows.TheConstants.{READ, WRITTEN}
@@ -12,8 +14,8 @@ use Rattle.work_windows.specs.declared.row.Row.{Row}
 use Rattle.work_windows.specs.declared.windows.Windows.{Windows}
 
 -- where there are no windows
-pub empty_stands : (work : List ℕ) (w : Windows) → w.written.items.items ≡ [] → w.read.items.items ≡ [] → w.limit ≡ 0 → Stands work w work
-empty_stands work w none no_read nought = record { over = empty_over work w.written.items.items w.limit none nought; read = subst (AllShow READ work) (sym no_read) (none-show READ work) }
+pub empty_stands : (work : List ℕ) (w : Windows) → w.written.items.items ≡ [] → w.read.items.items ≡ [] → w.limit ≡ 0 → ((page : ℕ) → may_hold w.blanks page ≡ true) → Stands work w work
+empty_stands work w none no_read nought any = record { over = empty_over work w.written.items.items w.limit none nought; read = subst (AllShow READ work) (sym no_read) (none-show READ work); blank = none-blank work w.blanks any }
 
 -- the one list that Work holds
 pub stands-current : (work all : List ℕ) (w : Windows) → Stands work w all → Stands work w (overlaid work w.written.items.items w.limit)
@@ -34,7 +36,7 @@ two-parts all place room piece fits =
 
 -- the row of written pages was asked for one
 pub asked-stands : (work all : List ℕ) (w : Windows) (row : Row WRITTEN) → Stands work w all → AllShow WRITTEN all row.items.items → ((k : ℕ) → kept_at WRITTEN row.items.items k ≡ kept_at WRITTEN w.written.items.items k) → Stands work (record w { written = row }) all
-asked-stands work all w row st shows kept = record { over = over-kept work all w.written.items.items row.items.items w.limit st.over shows (λ k none. sym (kept k) ∙ none); read = st.read }
+asked-stands work all w row st shows kept = record { over = over-kept work all w.written.items.items row.items.items w.limit st.over shows (λ k none. sym (kept k) ∙ none); read = st.read; blank = st.blank }
 
 -- the row of read pages as it was
 pub read-as : (all : List ℕ) (now was : Row READ) → now ≡ was → AllShow READ all was.items.items → AllShow READ all now.items.items

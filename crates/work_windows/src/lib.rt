@@ -12,9 +12,10 @@
 //! What is written gathers in windows, and goes on to the host inside when a write to another page wants a window's place. Pages that are only
 //! read have windows of their own: a read never takes the place of what is kept back, since a read that fails has to leave Work as it was,
 //! and a write that fails has not. A write that fails makes all windows forget. Nothing is written at the end, since Work is for the run alone.
+//! A page that was never written since Work was attached is all zeros, and isn't read (`Blanks`).
 //!
 //! That windows and the host inside together hold what Work holds is a fact of the type, wherever the host inside tells what Work holds
-//! (`current`). Read `specs/Windows.antt`, then `Rows.antt`.
+//! (`current`). Read `specs/Windows.antt`, then `Blanks.antt` and `Rows.antt`.
 //!
 //! - Proved: `Windowed` meets every clause of `Host` over any host inside; what it tells of Work is what the host inside holds, with what
 //!   the windows keep back put over it.
@@ -22,6 +23,7 @@
 //! - Not said: How many calls the windows spare; `docs/COSTS.md` has what was measured.
 #![tactic(auto)]
 
+mod blanks;
 mod row;
 mod window;
 mod windowed;

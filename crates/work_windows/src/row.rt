@@ -11,6 +11,9 @@ use crate::window::{WIDTH, Window};
 use loom_host::{Failed, Host, Role};
 use std::alloc::Global;
 
+// So many windows are added at once.
+const STEP: usize = 16;
+
 /// A row of windows over Work. A page is the bytes from a multiple of `WIDTH` on; page p is shown by window p % `COUNT` or by none.
 #[derive(Drop)]
 pub(crate) struct Row<const COUNT: usize> {
@@ -26,6 +29,14 @@ pub(crate) fn index_of(place: u64, count: usize) -> usize
     (place / WIDTH as u64 % count as u64) as usize
 }
 
+// How many windows there are where one with this index is wanted, of at most so many.
+fn grown(index: usize, most: usize) -> usize
+    requires { index < most }
+    ensures { index < result }
+{
+    most.min(index.saturating_add(STEP))
+}
+
 impl<const COUNT: usize> Row<COUNT> {
     /// Windows of nothing. Where memory for them is refused there are none, and all goes to the host.
     pub fn new(alloc: Global) -> Row<COUNT>
@@ -39,39 +50,35 @@ impl<const COUNT: usize> Row<COUNT> {
         }
     }
 
-    // Whether there is a window with this index, where windows of nothing are added up to it if need be.
-    fn reach(&mut self, index: usize) -> bool
-        ensures there { IsTrue result → index < length self.new.items.items }
-        ensures shows { (work : List ℕ) → AllShow COUNT work self.old.items.items → AllShow COUNT work self.new.items.items }
-        ensures kept { (k : ℕ) → kept_at COUNT self.new.items.items k ≡ kept_at COUNT self.old.items.items k }
-    {
-        index < self.items.len() || self.grow(index)
-    }
-
-    // Adds windows of nothing up to this one, unless memory was refused. It stands apart from `reach`, which goes with each call and so
-    // holds no window of its own.
-    fn grow(&mut self, index: usize) -> bool
-        requires { length self.old.items.items ≤ index }
-        ensures there { IsTrue result → index < length self.new.items.items }
-        ensures shows { (work : List ℕ) → AllShow COUNT work self.old.items.items → AllShow COUNT work self.new.items.items }
-        ensures kept { (k : ℕ) → kept_at COUNT self.new.items.items k ≡ kept_at COUNT self.old.items.items k }
-    {
-        index < self.items.capacity() && self.items.resize(index + 1, Window::unread()).is_ok()
-    }
-
-    /// Whether the page that a place lies in is one to be shown: it is shown, or its window shows nothing, or it was asked for last. So
-    /// one that is asked for once in a while doesn't take another's place.
-    pub fn wants(&mut self, place: u64) -> bool
+    /// Whether there is a window for the page that a place lies in. Windows of nothing are added up to it if need be, unless memory was
+    /// refused.
+    pub fn reach(&mut self, place: u64) -> bool
         requires some { 0 < COUNT }
         ensures there { IsTrue result → place / WIDTH % COUNT < length self.new.items.items }
         ensures shows { (work : List ℕ) → AllShow COUNT work self.old.items.items → AllShow COUNT work self.new.items.items }
         ensures kept { (k : ℕ) → kept_at COUNT self.new.items.items k ≡ kept_at COUNT self.old.items.items k }
     {
         let index = index_of(place, COUNT);
-        self.reach(index) && self.items[index].is_wanted(place - place % WIDTH as u64)
+        index < self.items.len() || self.grow(index)
+    }
+
+    // Adds windows of nothing up to this one and a few more, unless memory was refused. It stands apart from `reach`, which goes with each
+    // call and so holds no window of its own.
+    fn grow(&mut self, index: usize) -> bool
+        requires { length self.old.items.items ≤ index }
+        ensures there { IsTrue result → index < length self.new.items.items }
+        ensures shows { (work : List ℕ) → AllShow COUNT work self.old.items.items → AllShow COUNT work self.new.items.items }
+        ensures kept { (k : ℕ) → kept_at COUNT self.new.items.items k ≡ kept_at COUNT self.old.items.items k }
+    {
+        index < self.items.capacity()
+            && self
+                .items
+                .resize(grown(index, self.items.capacity()), Window::unread())
+                .is_ok()
     }
 
     /// Whether the page that a place lies in is shown.
+    #[inline(always)]
     pub fn has(&self, place: u64) -> bool
         requires some { 0 < COUNT }
         ensures { IsTrue result ↔ IsShown COUNT self.now.items.items place }
@@ -94,6 +101,18 @@ impl<const COUNT: usize> Row<COUNT> {
         self.items[index].fetch(host, place - place % WIDTH as u64)
     }
 
+    /// Shows the page that a place lies in, which is all zeros.
+    pub fn blank(&mut self, place: u64)
+        requires some { 0 < COUNT }
+        requires there { place / WIDTH % COUNT < length self.old.items.items }
+        ensures shown { IsShown COUNT self.new.items.items place }
+        ensures shows { (all : List ℕ) → window [] (place - place % WIDTH) WIDTH ≡ window all (place - place % WIDTH) WIDTH → AllShow COUNT all self.old.items.items → AllShow COUNT all self.new.items.items }
+        ensures kept { IsUnread self.old.items.items (place / WIDTH % COUNT) → (k : ℕ) → kept_at COUNT self.new.items.items k ≡ None → kept_at COUNT self.old.items.items k ≡ None }
+    {
+        let index = index_of(place, COUNT);
+        self.items[index].blank(place - place % WIDTH as u64);
+    }
+
     /// Shows the page that a place lies in as another row shows it.
     pub fn take<const OTHER: usize>(&mut self, other: &Row<OTHER>, place: u64)
         requires some { 0 < COUNT }
@@ -109,6 +128,7 @@ impl<const COUNT: usize> Row<COUNT> {
     }
 
     /// Gives bytes of a page that is shown.
+    #[inline(always)]
     pub fn give(&self, place: u64, buf: &mut [u8])
         requires some { 0 < COUNT }
         requires within { place % WIDTH + length buf.old ≤ WIDTH }

@@ -1,10 +1,9 @@
 // One window over Work.
-ghost use Rattle.std.specs.Prelude.{◌≡◌, ◌+◌, ◌≤◌, ◌↔◌, ℕ, List, None, Some, IsTrue, OnOk, OnErr, length};
+ghost use Rattle.std.specs.Prelude.{◌≡◌, ◌+◌, ◌≤◌, ◌↔◌, ℕ, List, [], None, Some, IsTrue, OnOk, OnErr, length, replicate};
 ghost use Rattle.loom_host.specs.Bytes.{window, overwritten};
 ghost use Rattle.loom_host.specs.Outside.{HasCause};
 ghost use Rattle.loom_host.specs.Work.{work_of, IsWorkRead, IsWorkOnly};
 ghost use Rattle.loom_host.specs.declared.outside.Role.{Role};
-ghost use Rattle.work_windows.specs.Windows.{IsPageOf, Shows, saved};
 ghost use Rattle.work_windows.specs.declared.window.TheConstants.{WIDTH};
 
 use loom_host::{Failed, Host, Role};
@@ -18,11 +17,14 @@ pub(crate) struct Window {
     // Its first byte, None where it shows nothing.
     pub place: Option<u64>,
     pub bytes: [u8; WIDTH],
-    // The page that was asked for last where it showed another.
-    pub asked: Option<u64>,
+    // Nothing was put to its bytes since they were made zeros.
+    zeros: bool,
+    ghost clean: { IsTrue zeros → bytes ≡ replicate 4096 0 },
 }
 
 impl Window {
+    ghost use Rattle.work_windows.specs.Windows.{IsPageOf, Shows, saved};
+
     /// A window of nothing.
     pub fn unread() -> Window
         ensures { result.place ≡ None }
@@ -30,7 +32,7 @@ impl Window {
         Window {
             place: None,
             bytes: [0; WIDTH],
-            asked: None,
+            zeros: true,
         }
     }
 
@@ -44,20 +46,6 @@ impl Window {
         }
     }
 
-    /// Whether the page from a place on is one to be shown: it is shown, or nothing is, or it was asked for last. If another is shown, it is
-    /// the one that was asked for last then.
-    pub fn is_wanted(&mut self, place: u64) -> bool
-        ensures place { self.new.place ≡ self.old.place }
-        ensures bytes { self.new.bytes ≡ self.old.bytes }
-    {
-        if self.place.is_none() || self.is_at(place) {
-            return true;
-        }
-        let again = self.asked == Some(place);
-        self.asked = Some(place);
-        again
-    }
-
     /// Reads the page from a place on.
     pub fn fetch<H: Host>(&mut self, host: &mut H, place: u64) -> Result<(), Failed>
         ensures place { OnOk result (self.new.place ≡ Some place) }
@@ -67,9 +55,22 @@ impl Window {
         ensures cause { HasCause (H.faults host.old Role.Work) (H.faults host.new Role.Work) result }
     {
         self.place = None;
+        self.zeros = false;
         host.read_at(place, &mut self.bytes)?;
         self.place = Some(place);
         Ok(())
+    }
+
+    /// Shows the page from a place on, which is all zeros.
+    pub fn blank(&mut self, place: u64)
+        ensures place { self.new.place ≡ Some place }
+        ensures bytes { self.new.bytes ≡ window [] place WIDTH }
+    {
+        self.place = Some(place);
+        if !self.zeros {
+            self.bytes = [0; WIDTH];
+            self.zeros = true;
+        }
     }
 
     /// Shows what another window shows.
@@ -78,6 +79,7 @@ impl Window {
         ensures bytes { self.new.bytes ≡ other.now.bytes }
     {
         self.place = other.place;
+        self.zeros = false;
         self.bytes = other.bytes;
     }
 
@@ -105,6 +107,7 @@ impl Window {
         ensures place { self.new.place ≡ self.old.place }
     {
         if self.is_at(place) {
+            self.zeros = false;
             self.bytes[from..from + piece.len()].copy_from_slice(piece);
         }
     }

@@ -11,9 +11,9 @@ use std::alloc::Global;
 
 /// A host over another. A piece of at most `MOST` bytes of Work is read and written page by page in windows of `WIDTH` bytes; over an edge
 /// it is two pieces. There are two rows of them: `WRITTEN` for pages that are written, which the host inside gets when their window makes place
-/// for a write to another page, and `READ` for pages that are only read. A page gets a window where its place there shows nothing, or where it was
-/// asked for last, too; else the piece goes on to the host inside. A longer piece always does, and what is kept back is put over what is
-/// read. Where memory for the windows is refused there are none.
+/// for a write to another page, and `READ` for pages that are only read. A page that is asked for gets its window at once, since a whole page is
+/// read by one call as a piece is; one that was never written since Work was attached isn't read at all. A longer piece goes on to the host
+/// inside, and what is kept back is put over what is read. Where memory for the windows is refused there are none.
 ///
 /// Nothing is written to the host inside but by `write_at`, so what was written last may never get there: Work is for the run alone.
 #[derive(Drop)]
@@ -66,7 +66,9 @@ impl<H: Host + Drop> Host for Windowed<H> {
 
     fn attach(&mut self, role: Role, name: &str) -> Result<(), Failed> {
         self.windows.attached(role);
-        self.inner.attach(role, name)
+        let went = self.inner.attach(role, name);
+        self.windows.began(role, went.is_ok());
+        went
     }
 
     fn read(&mut self, role: Role, buf: &mut [u8]) -> Result<usize, Failed> {

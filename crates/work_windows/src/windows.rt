@@ -1,14 +1,16 @@
 // The windows over Work, in two rows: one of pages that are written, one of pages that are only read.
-ghost use Rattle.std.specs.Prelude.{◌≡◌, ◌≢◌, ◌+◌, ◌-◌, ◌^◌, ◌≤◌, ◌<◌, ◌%◌, ◌/◌, ℕ, List, IsTrue, IfOk, OnOk, length};
+ghost use Rattle.std.specs.Prelude.{◌≡◌, ◌≢◌, ◌+◌, ◌-◌, ◌^◌, ◌≤◌, ◌<◌, ◌%◌, ◌/◌, ℕ, List, [], IsTrue, IfOk, OnOk, length};
 ghost use Rattle.loom_host.specs.Bytes.{window, overwritten};
 ghost use Rattle.loom_host.specs.Outside.{HasCause};
 ghost use Rattle.loom_host.specs.Work.{work_of, IsWorkRead, IsWorkOnly};
 ghost use Rattle.loom_host.specs.declared.outside.Role.{Role};
+ghost use Rattle.work_windows.specs.Blanks.{AreBlank};
 ghost use Rattle.work_windows.specs.Windows.{IsShown, IsUnread, Over};
 ghost use Rattle.work_windows.specs.Rows.{Stands};
 ghost use Rattle.work_windows.specs.declared.window.TheConstants.{WIDTH};
 ghost use Rattle.work_windows.specs.declared.windows.TheConstants.{WRITTEN, READ};
 
+use crate::blanks::Blanks;
 use crate::row::{Row, index_of};
 use crate::window::WIDTH;
 use loom_host::{Failed, Host, Role};
@@ -18,10 +20,10 @@ use std::alloc::Global;
 pub const WRITTEN: usize = 1_088;
 
 /// How many windows there are at most for pages that are only read.
-pub const READ: usize = 64;
+pub const READ: usize = 544;
 
 /// The most bytes of a piece that is read or written by windows.
-pub const MOST: usize = 512;
+pub const MOST: usize = WIDTH;
 
 /// Windows over Work. What a window of `written` shows is kept back: the host inside may not have it. What one of `read` shows, and none of
 /// `written`, it has.
@@ -31,6 +33,8 @@ pub(crate) struct Windows {
     pub read: Row<READ>,
     // Behind each byte that was written to a window.
     pub limit: u64,
+    // Pages that the host inside was never written, so that none of them is read.
+    pub blanks: Blanks,
 }
 
 impl Windows {
@@ -43,6 +47,7 @@ impl Windows {
             written: Row::new(alloc),
             read: Row::new(alloc),
             limit: 0,
+            blanks: Blanks::unknown(),
         }
     }
 
@@ -73,6 +78,7 @@ impl Windows {
     }
 
     // Reads a piece over the edge of a page, so many bytes behind its place, in two parts.
+    #[inline(never)]
     fn read_over<H: Host>(
         &mut self,
         host: &mut H,
@@ -96,7 +102,9 @@ impl Windows {
         self.read_within(host, place + room as u64, back)
     }
 
-    // Reads a piece within a page: from the window that shows it, if there is one or is to be one, or else from the host, which has it then.
+    // Reads a piece within a page: from a window that shows it, or zeros of one that was never written, or else from the window that it gets.
+    // Where there is none, the host has it.
+    #[inline(always)]
     fn read_within<H: Host>(
         &mut self,
         host: &mut H,
@@ -115,6 +123,14 @@ impl Windows {
             self.written.give(place, buf);
             return Ok(());
         }
+        if self.read.has(place) {
+            self.read.give(place, buf);
+            return Ok(());
+        }
+        if self.blanks.has(place) {
+            buf.fill(0);
+            return Ok(());
+        }
         if self.shows(host, place)? {
             self.read.give(place, buf);
             return Ok(());
@@ -122,7 +138,8 @@ impl Windows {
         host.read_at(place, buf)
     }
 
-    // Whether the page that a place lies in, which isn't kept back, is shown as one that is only read. It is read if it is wanted.
+    // Whether the page that a place lies in, which isn't kept back, is shown as one that is only read. It is read if it has a window and isn't.
+    #[inline(never)]
     fn shows<H: Host>(&mut self, host: &mut H, place: u64) -> Result<bool, Failed>
         requires { IsShown WRITTEN self.old.written.items.items place → ⊥ }
         ensures shown { IfOk result (λ shown. IsTrue shown → IsShown READ self.new.read.items.items place) }
@@ -132,7 +149,7 @@ impl Windows {
         ensures read { IsWorkRead H.Host host.old host.new }
         ensures cause { HasCause (H.faults host.old Role.Work) (H.faults host.new Role.Work) result }
     {
-        if !self.read.wants(place) {
+        if !self.read.reach(place) {
             return Ok(false);
         }
         if self.read.has(place) {
@@ -217,7 +234,7 @@ impl Windows {
         ensures host { IsWorkOnly H.Host host.old host.new }
         ensures cause { HasCause (H.faults host.old Role.Work) (H.faults host.new Role.Work) result }
     {
-        if !self.written.wants(place) {
+        if !self.written.reach(place) {
             return self.write_through(host, place, piece);
         }
         if !self.written.has(place) {
@@ -239,6 +256,7 @@ impl Windows {
         ensures cause { HasCause (H.faults host.old Role.Work) (H.faults host.new Role.Work) result }
     {
         host.write_at(place, piece)?;
+        self.blanks.note(place, piece.len());
         self.written.follow(place, piece);
         self.read.follow(place, piece);
         Ok(())
@@ -257,6 +275,10 @@ impl Windows {
             self.written.take(&self.read, place);
             return Ok(());
         }
+        if self.blanks.has(place) {
+            self.written.blank(place);
+            return Ok(());
+        }
         self.written.fetch(host, place)
     }
 
@@ -266,12 +288,15 @@ impl Windows {
         ensures there { length self.new.written.items.items ≡ length self.old.written.items.items }
         ensures unread { OnOk result (IsUnread self.new.written.items.items (place / WIDTH % WRITTEN)) }
         ensures over { IsTrue (H.tells Role.Work) → (all : List ℕ) → Over (work_of H.Host host.old) self.old.written.items.items self.old.limit all → OnOk result (Over (work_of H.Host host.new) self.new.written.items.items self.new.limit all) }
+        ensures blank { IsTrue (H.tells Role.Work) → AreBlank (work_of H.Host host.old) self.old.blanks → OnOk result (AreBlank (work_of H.Host host.new) self.new.blanks) }
         ensures read { self.new.read ≡ self.old.read }
         ensures limit { self.new.limit ≡ self.old.limit }
         ensures host { IsWorkOnly H.Host host.old host.new }
         ensures cause { HasCause (H.faults host.old Role.Work) (H.faults host.new Role.Work) result }
     {
-        self.written.items[index_of(place, WRITTEN)].save(host, self.limit)
+        let index = index_of(place, WRITTEN);
+        self.blanks.note_shown(&self.written.items[index]);
+        self.written.items[index].save(host, self.limit)
     }
 
     // Puts a piece into the window that shows its page.
@@ -296,13 +321,25 @@ impl Windows {
         }
     }
 
+    /// Behind an attach for a role, which went through or not: where Work was attached, it is empty.
+    pub fn began(&mut self, role: Role, went: bool)
+        ensures stands { (work all : List ℕ) → (IsTrue went → role ≡ Role.Work → work ≡ []) → Stands work self.old all → Stands work self.new all }
+        ensures written { self.new.written ≡ self.old.written }
+        ensures limit { self.new.limit ≡ self.old.limit }
+    {
+        if went && role == Role::Work {
+            self.blanks = Blanks::empty();
+        }
+    }
+
     #[tactic(auto, using(crate::proofs::RowLaws::empty_stands))]
-    /// Makes each a window of nothing.
+    /// Makes each a window of nothing. Any page may hold anything then.
     pub fn forget(&mut self)
         ensures { (work : List ℕ) → Stands work self.new work }
     {
         self.written.forget();
         self.read.forget();
         self.limit = 0;
+        self.blanks = Blanks::unknown();
     }
 }

@@ -2,7 +2,7 @@ use Rattle.std.proofs.Common.{List, ℕ, sym, subst}
 use Rattle.std.proofs.lemmas.Result.{on_ok_weaker, IfErr-weaker}
 use Rattle.std.specs.FinMap as map
 use Rattle.work_directory.specs.declared.directory.Found.TheVariants.{Vacant}
-use Rattle.work_directory.specs.Directory.{slots_of, end_of, entries_of, AnswersSearch, IsIn, IsChanged}
+use Rattle.work_directory.specs.Directory.{slots_of, entries_of, AnswersSearch, IsIn, IsChanged}
 use Rattle.work_directory.specs.Table.{entry_of}
 use Rattle.work_directory.specs.Work.{IsCause}
 use Rattle.loom_host.specs.Work.{work_of}
@@ -54,7 +54,7 @@ returns-in-Vacant-clause-written g c =
 pub returns-in-Vacant-clause-cause : goal.returns-in-Vacant-clause-cause
 returns-in-Vacant-clause-cause g c = λ room.
     let h = g.H.Host in
-    let end = end_of c.args.self.now in
+    let end = slots_of c.args.self.now in
     IfErr-weaker c.add_at.result (IsCause h c.search.new.host c.add_at.new.host end c.args.slot.name)
     (IsCause h c.args.host.now c.add_at.new.host end c.args.slot.name)
     (λ fault. cause-later h c.args.host.now c.search.new.host c.add_at.new.host end c.args.slot.name fault c.in_ok-at.ensures.read.later) c.add_at.ensures.cause

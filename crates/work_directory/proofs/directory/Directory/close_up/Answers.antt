@@ -2,7 +2,7 @@ use Rattle.std.proofs.Common.{ℕ, ◌≡◌, ◌<◌, sym, ap, ◌∙◌, subst
 use Rattle.std.proofs.lemmas.Result.{on_ok_weaker}
 use Rattle.probing.proofs.ClosingLaws.{not_all_met}
 use Rattle.probing.specs.Homes.{paged_home_of}
-use Rattle.work_directory.specs.Directory.{held_of, slots_of, end_of}
+use Rattle.work_directory.specs.Directory.{held_of, slots_of}
 use Rattle.work_directory.specs.Inside.{Closes}
 use Rattle.work_directory.specs.Slots.{AreSpelled}
 use Rattle.work_directory.specs.Table.{name_at}
@@ -74,7 +74,7 @@ returns-in_err-slot-clause-cause g c =
     let l = c.loop-step in
     let n = c.slots-slots.ensures.value in
     let within : c.turn-place.result < slots_of d = let b = c.turn-place.ensures.within in omega (arith, b, n) in
-    exits c.from_residual.result c.in_err-slot.field-0.0 (IsCause h c.args.host.now c.look.new.host (end_of d) c.args.name)
+    exits c.from_residual.result c.in_err-slot.field-0.0 (IsCause h c.args.host.now c.look.new.host (slots_of d) c.args.name)
     c.from_residual.ensures.1
     (look-cause h c.args.host.now l.host c.look.new.host (slots_of d) c.turn-place.result c.args.name c.in_err-slot.field-0.0 within
     l.invariant.work.later

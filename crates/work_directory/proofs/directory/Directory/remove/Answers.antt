@@ -1,6 +1,6 @@
 use Rattle.std.proofs.Common.{ℕ, List, refl, sym, ap, ◌∙◌, subst}
 use Rattle.work_directory.specs.declared.slot.Slot.{Slot}
-use Rattle.work_directory.specs.Directory.{room_of, held_of, was_written, slots_of, end_of, IsIn}
+use Rattle.work_directory.specs.Directory.{room_of, held_of, was_written, slots_of, IsIn}
 use Rattle.work_directory.specs.Slots.{slot_at}
 use Rattle.work_directory.specs.Work.{IsCause}
 use Rattle.loom_host.specs.Work.{work_of}
@@ -54,8 +54,8 @@ pub returns-in_err-close_up-clause-cause : goal.returns-in_err-close_up-clause-c
 returns-in_err-close_up-clause-cause g c =
     let h = g.H.Host in
     exits c.from_residual-in_err-close_up.result c.in_err-close_up.field-0.0
-    (IsCause h c.args.host.now c.close_up.new.host (end_of c.args.self.now) c.args.name) c.from_residual-in_err-close_up.ensures.1
-    (cause-later h c.args.host.now c.search.new.host c.close_up.new.host (end_of c.args.self.now) c.args.name c.in_err-close_up.field-0.0
+    (IsCause h c.args.host.now c.close_up.new.host (slots_of c.args.self.now) c.args.name) c.from_residual-in_err-close_up.ensures.1
+    (cause-later h c.args.host.now c.search.new.host c.close_up.new.host (slots_of c.args.self.now) c.args.name c.in_err-close_up.field-0.0
     c.in_ok-at.ensures.read.later c.in_err-close_up.ensures.cause)
 
 pub returns-clause-removed : goal.returns-clause-removed

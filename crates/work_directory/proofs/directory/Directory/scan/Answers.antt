@@ -3,7 +3,7 @@ use Rattle.probing.specs.Homes.{paged_home_of}
 use Rattle.probing.proofs.HomeLaws.{paged_home_of-below}
 use Rattle.probing.specs.Search.{IsPassed}
 use Rattle.probing.proofs.TableLaws.{not_all_passed}
-use Rattle.work_directory.specs.Directory.{slots_of, end_of, IsIn}
+use Rattle.work_directory.specs.Directory.{slots_of, IsIn}
 use Rattle.work_directory.specs.Table.{name_at}
 use Rattle.work_directory.specs.Work.{IsCause}
 use Rattle.loom_host.specs.Work.{work_of}
@@ -17,7 +17,7 @@ returns-in_err-slot-clause-cause g c =
     let h = g.H.Host in
     let d = c.args.self.now in
     let within : c.turn-at.result < slots_of d = let l = c.turn-at.ensures.within in omega (arith, l, c.slots-slots.ensures.value) in
-    exits c.from_residual.result c.in_err-slot.field-0.0 (IsCause h c.args.host.now c.look.new.host (end_of d) c.args.name)
+    exits c.from_residual.result c.in_err-slot.field-0.0 (IsCause h c.args.host.now c.look.new.host (slots_of d) c.args.name)
     c.from_residual.ensures.1
     (look-cause h c.args.host.now c.loop-step.host c.look.new.host (slots_of d) c.turn-at.result c.args.name c.in_err-slot.field-0.0
     within c.loop-step.invariant.read.later

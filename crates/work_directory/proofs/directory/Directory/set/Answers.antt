@@ -1,7 +1,7 @@
 use Rattle.std.proofs.Common.{refl, ap, ◌∙◌}
 use Rattle.std.proofs.lemmas.Result.{on_ok_weaker, IfErr-weaker}
 use Rattle.work_directory.specs.declared.slot.Slot.{Slot}
-use Rattle.work_directory.specs.Directory.{slots_of, end_of}
+use Rattle.work_directory.specs.Directory.{slots_of}
 use Rattle.work_directory.specs.Inside.{IsWriteCause}
 use Rattle.work_directory.specs.Work.{IsCause}
 use Rattle.loom_host.specs.Work.{work_of}
@@ -26,8 +26,8 @@ pub returns-in-Held-clause-cause : goal.returns-in-Held-clause-cause
 returns-in-Held-clause-cause g c =
     let h = g.H.Host in
     IfErr-weaker c.put.result (IsWriteCause h c.search.new.host c.put.new.host)
-    (IsCause h c.args.host.now c.put.new.host (end_of c.args.self.now) c.args.slot.name)
-    (λ fault. write-cause h c.args.host.now c.search.new.host c.put.new.host (end_of c.args.self.now) c.args.slot.name fault
+    (IsCause h c.args.host.now c.put.new.host (slots_of c.args.self.now) c.args.slot.name)
+    (λ fault. write-cause h c.args.host.now c.search.new.host c.put.new.host (slots_of c.args.self.now) c.args.slot.name fault
     c.in_ok-at.ensures.read.later) c.put.ensures.cause
 
 -- the name is held, so the search doesn't meet an empty slot first

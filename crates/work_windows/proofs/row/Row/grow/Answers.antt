@@ -9,4 +9,4 @@ returns-then-index-capacity-clause-shows g c = λ work shows.
 
 pub returns-then-index-capacity-clause-kept : goal.returns-then-index-capacity-clause-kept
 returns-then-index-capacity-clause-kept g c = λ k.
-    resized-kept _ c.args.self.now.items.items _ _ _ c.unread.result _ c.resize.ensures.items (omega (arith, c.requires)) c.unread.ensures k
+    resized-kept _ c.args.self.now.items.items _ _ _ c.unread.result _ c.resize.ensures.items (omega (arith, c.requires, c.grown.ensures)) c.unread.ensures k

@@ -11,4 +11,5 @@ returns c = λ work all st.
     record {
       over = subst (λ n. Over work vs n (overwritten all c.args.place c.args.piece.now)) (sym c.max-self.ensures) (put-over work all w.written.items.items vs w.limit c.args.place c.args.piece.now st.over (c.follow_within.ensures.shows all st.over.shows) c.follow_within.ensures.kept (c.follow_within.ensures.shown c.requires.shown) c.requires.within);
       read = c.follow_within-2.ensures.shows all st.read;
+      blank = st.blank;
     }
