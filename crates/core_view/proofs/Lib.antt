@@ -16,4 +16,5 @@ pub mod Tight
 pub mod Fresh
 pub mod Others
 pub mod Purge
+pub mod Here
 mod Examples

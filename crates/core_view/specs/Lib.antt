@@ -3,6 +3,7 @@ pub mod Words
 pub mod Held
 pub mod Counts
 pub mod Kept
+pub mod Once
 pub mod Steps
 pub mod Room
 pub mod Purge

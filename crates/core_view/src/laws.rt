@@ -3,7 +3,7 @@ ghost use Rattle.std.specs.Prelude.{◌≡◌, ◌+◌, ◌<◌, ◌≤◌, ◌^
 ghost use Rattle.long_names.specs.Objects.{with_field};
 ghost use Rattle.long_names.specs.declared.limits.TheConstants.{MOST_FIELDS};
 ghost use Rattle.object_table.specs.declared.entry.Entry.{Entry};
-ghost use Rattle.object_table.specs.Entries.{put, place_of, sum_below, used_by};
+ghost use Rattle.object_table.specs.Entries.{put, is_used, place_of, sum_below, used_by};
 ghost use Rattle.core_segment.specs.declared.segment.Moved.{Moved};
 ghost use Rattle.core_segment.specs.Chunks.{Placed, at_place, IsLaidOut};
 ghost use Rattle.core_segment.specs.Segment.{IsMove as IsChunkMove};
@@ -12,6 +12,7 @@ ghost use Rattle.core_view.specs.Words.{meant, pointers};
 ghost use Rattle.core_view.specs.Held.{Disk, disk_with, fields_there, object_at, held};
 ghost use Rattle.core_view.specs.Counts.{names, outside};
 ghost use Rattle.core_view.specs.Kept.{IsCore, IsTight, IsBacked, Stays, KeepsOver};
+ghost use Rattle.core_view.specs.Once.{HasMarksHere};
 ghost use Rattle.core_view.specs.Room.{room_for, entries_for, over_three, in_hand, IsPin, IsBare};
 ghost use Rattle.core_view.specs.Steps.{IsSpare, IsIdle, IsAt, IsOpening, IsMove, at_another, with_field_word, written};
 
@@ -68,4 +69,12 @@ pub fn an_object_is_made()
         held (with_entry c s e) disk ≡ put (held c disk) (c.entries s).name (Some (object_at (with_entry c s e) disk e p)) }
     ensures backed { (c : Core) (disk : Disk) (s p : ℕ) (e : Entry) → IsCore c → IsBacked c disk → IsOpening c s p e → e.flags.fresh ≡ true → e.flags.changed ≡ true
         → disk (c.entries s).name ≡ None → ((i : ℕ) → slice_get (pointers e.kind (c.chunks p).words) i ≡ Some 0 → ⊥) → IsBacked (with_entry c s e) disk }
+{}
+
+/// That each marked object is in the core, by a test, is that each has a place.
+pub fn marked_objects_have_places()
+    ensures places { (c : Core) (s : ℕ) → HasMarksHere c → is_used (c.entries s).state ≡ true → (c.entries s).flags.marked ≡ true
+        → (p : ℕ) × (place_of (c.entries s).state ≡ Some p) }
+    ensures here { (c : Core) → ((s : ℕ) → is_used (c.entries s).state ≡ true → (c.entries s).flags.marked ≡ true
+        → (p : ℕ) × (place_of (c.entries s).state ≡ Some p)) → HasMarksHere c }
 {}

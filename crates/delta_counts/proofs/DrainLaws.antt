@@ -34,7 +34,7 @@ counting-giving p q c = record {
 }
 
 -- what no word of the heap is leaves a thinner one
-thinner-one : (t u : Levels) (n : ℕ) → IsSound t [] → count_of (heap_of t) n ≡ 0 → heap_of u ≡ without (heap_of t) n → IsThinner (heap_of t) (heap_of u)
+pub thinner-one : (t u : Levels) (n : ℕ) → IsSound t [] → count_of (heap_of t) n ≡ 0 → heap_of u ≡ without (heap_of t) n → IsThinner (heap_of t) (heap_of u)
 thinner-one t u n x none is = subst (λ h. IsThinner (heap_of t) h) (sym is) (thinner-without (heap_of t) n (bounded (heap_of t) x.heap) none)
 
 pub first-one : {H : Type 0} (host : Ghosts H) (chunks : ℕ → Chunk) (p : Parts2) (now : H) (rest : DiskRest) (t : Levels) (b : Bool) → IsSound t [] → b ≡ true → Drains host chunks p now rest t b → DrainsOne host chunks p now rest t true

@@ -4,7 +4,6 @@ use Rattle.long_names.specs.Counting.{Rose}
 use Rattle.long_names.specs.declared.value.Value.{Value}
 use Rattle.loom_host.specs.declared.outside.DiskFault.{DiskFault}
 use Rattle.loom_host.specs.declared.outside.DiskFault.TheVariants as fault
-use Rattle.work_directory.specs.declared.limits.TheConstants.{SLOT_BYTES}
 use Rattle.work_space.specs.declared.limits.TheConstants.{LAST_END}
 use Rattle.disk_objects.specs.declared.rest.DiskRest.{DiskRest}
 use Rattle.disk_objects.specs.Calls.{IsFault, IsSlotsFault}
@@ -23,7 +22,7 @@ rose-earlier a b c low x = omega arith
 -- ---- places
 
 slot-room : (old new : DiskRest) (at : ℕ) → disk_room new ≡ disk_room old → IsSlotPlace new at → IsSlotPlace old at
-slot-room old new at room x = record { whole = x.whole; below = subst (λ (k : ℕ). at < SLOT_BYTES * (2 * k)) room x.below }
+slot-room old new at room x = record { at = x.at; within = subst (λ (k : ℕ). x.at < 2 * k) room x.within; place_is = x.place_is }
 
 read-room : (old new : DiskRest) (at : ℕ) → disk_room new ≡ disk_room old → IsReadPlace new at → IsReadPlace old at
 read-room old new at room (inl x) = inl (slot-room old new at room x)

@@ -12,3 +12,4 @@ pub mod NumberLaws
 pub mod RefLaws
 pub mod SwapLaws
 pub mod ShortLaws
+pub mod EffectLaws

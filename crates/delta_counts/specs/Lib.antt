@@ -3,3 +3,4 @@ pub mod At
 pub mod Giving
 pub mod Faults
 pub mod Shorts
+pub mod Effects

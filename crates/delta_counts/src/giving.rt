@@ -23,7 +23,7 @@ use resident_table::Parts2;
 
 // Whether an entry is a leaf to which nothing refers.
 #[inline(always)]
-fn is_idle(p: &Parts2, s: Short) -> bool
+pub(crate) fn is_idle(p: &Parts2, s: Short) -> bool
     requires short { is_short s.0 ≡ true }
     requires within { s.0 < bound_of p.now.table }
     ensures { IsTrue result ↔ IsIdleEntry (entry_at p.now.table s.0) }

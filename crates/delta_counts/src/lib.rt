@@ -15,6 +15,9 @@
 //! `lower_words` lowers from the record that it makes of them, or `lower_shorts` from the short words themselves, where no lambda is
 //! among them.
 //!
+//! `TwoLevels` is the core and the disk as one struct, with what its parts keep as a fact of the type. Its calls owe one frame (`Leaves`) and one
+//! effect (`Keeps`), by what becomes of the heap; `specs/Effects.antt` has both.
+//!
 //! - Proved: Each call keeps counts exact where the host tells Work. `drain_one` frees one name that nothing holds, and answers false
 //!   exactly where there is none without a body. Over every host each call ends.
 //! - Tested: Objects that die in each state (`memory_tests`).
@@ -27,9 +30,9 @@ mod folding;
 mod freeing;
 mod giving;
 pub mod laws;
-mod references;
 mod shorts;
 mod stored;
+mod two_levels;
 mod words;
 
 pub use changes::{add_change, lower};
@@ -37,6 +40,6 @@ pub use draining::drain_one;
 pub use folding::fold;
 pub use freeing::{drain_all, drain_pending};
 pub use giving::{give_idle, give_idle_at, give_up};
-pub use references::{hold, release};
 pub use shorts::{lower_short, lower_shorts};
+pub use two_levels::TwoLevels;
 pub use words::lower_words;

@@ -4,6 +4,7 @@ use Rattle.std.specs.List.{Contains}
 use Rattle.std.specs.FinMap as map
 use Rattle.object_record.specs.Raw.{RawRecord, IsRawRecord}
 use Rattle.work_directory.specs.Directory.{room_of, end_of, entries_of, IsChanged}
+use Rattle.work_directory.specs.Slots.{slots_end}
 use Rattle.work_directory.specs.Table.{Entry, Entries}
 use Rattle.work_directory.specs.Work.{SameFrom}
 use Rattle.work_directory.specs.declared.directory.Directory.{Directory}
@@ -38,7 +39,7 @@ module _ (d : Directory) (s : Space) (v w laid : List ℕ) (out : ℕ → Option
   -- after a change of the directory, which may be another with the same room
   pub space-front : (d' : Directory) → room_of d' ≡ room_of d → SameFrom (end_of d') v w → HasSpace d' s w laid out
   space-front d' same front =
-      let end_is : end_of d' ≡ end_of d = ap (λ (n : ℕ). 24 * (2 * n)) same in
+      let end_is : end_of d' ≡ end_of d = ap (λ (n : ℕ). slots_end (2 * n)) same in
       record {
         blocks = blocks-front (from_of s) (space_end s) (first_of s) v w laid out h.blocks (end_of d') (let e = h.from_is in omega arith) (front-touched (end_of d') v w front);
         from_is = h.from_is ∙ sym end_is;
@@ -60,7 +61,7 @@ stays-apart d s v w laid out h p c at n gone low high t oe away f b is block = (
 pub stays-front : (d d' : Directory) (s : Space) (v w laid : List ℕ) (out : ℕ → Option ℕ) → HasSpace d s v laid out → room_of d' ≡ room_of d → SameFrom (end_of d') v w
     → (oe : Option Entry) → Stays v w out out oe
 stays-front d d' s v w laid out h same front oe f b is block =
-    let end_is : end_of d' ≡ end_of d = ap (λ (n : ℕ). 24 * (2 * n)) same in
+    let end_is : end_of d' ≡ end_of d = ap (λ (n : ℕ). slots_end (2 * n)) same in
     let behind = (block-behind d s v w laid out h f.place b block).0 in
     (block, window-same_from (end_of d') v w f.place (block_size b) front (omega arith))
 

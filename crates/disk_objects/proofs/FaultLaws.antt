@@ -1,5 +1,5 @@
 -- Why calls failed, from why the steps inside them did, and the places that Damaged tells.
-use Rattle.std.proofs.Common.{◌≡◌, ℕ, ◌*◌, ◌<◌, ◌≤◌, inl, inr, cond, Bool, true, false, Option, Some, None, Ok, Err, IfOk, IfErr, IsTrue, refl, sym, ap, subst, arith}
+use Rattle.std.proofs.Common.{◌≡◌, ℕ, ◌<◌, ◌≤◌, inl, inr, cond, Bool, true, false, Option, Some, None, Ok, Err, IfOk, IfErr, IsTrue, refl, sym, ap, subst, arith}
 use Rattle.std.specs.Prelude.{nat_le}
 use Rattle.std.proofs.lemmas.Bool.Decides.{nat_tests}
 use Rattle.loom_host.specs.declared.outside.DiskFault.{DiskFault}
@@ -8,12 +8,12 @@ use Rattle.loom_host.specs.declared.outside.Host.{Ghosts}
 use Rattle.loom_host.specs.declared.outside.Role.TheVariants.{Work as OfWork}
 use Rattle.loom_host.specs.Work.{IsWorkFault}
 use Rattle.object_record.specs.Raw.{RawRecord}
-use Rattle.work_directory.specs.Directory.{end_of, slots_of, found_entry, IsOfName}
+use Rattle.work_directory.specs.Directory.{slots_of, found_entry, IsOfName}
 use Rattle.work_directory.specs.Table.{Entry, entry_of}
 use Rattle.work_directory.specs.Work.{IsCause, IsSlotCause}
 use Rattle.work_directory.specs.declared.directory.Found.{Found}
 use Rattle.work_directory.specs.declared.directory.Found.TheVariants.{Held, Vacant}
-use Rattle.work_directory.specs.declared.limits.TheConstants.{SLOT_BYTES}
+use Rattle.work_directory.specs.Slots.{slot_place}
 use Rattle.work_space.specs.Calls.{IsTakeFault}
 use Rattle.work_space.specs.declared.limits.TheConstants.{LAST_END}
 use Rattle.work_space.specs.declared.space.Space.{Space}
@@ -28,10 +28,10 @@ use Rattle.disk_objects.proofs.StoredLaws.{none-is-some}
 -- ---- faults that go up
 
 pub cause-slot : {H : Type 0} (host : Ghosts H) (rest : DiskRest) (a b c : H) (name : ℕ) (fault : DiskFault) → host.faults a OfWork ≤ host.faults b OfWork
-    → IsCause host b c (end_of rest.directory) name fault → IsFault (host.tells OfWork) (host.faults a OfWork) (host.faults c OfWork) (IsSlotPlace rest) name fault
+    → IsCause host b c (slots_of rest.directory) name fault → IsFault (host.tells OfWork) (host.faults a OfWork) (host.faults c OfWork) (IsSlotPlace rest) name fault
 cause-slot host rest a b c name (Work count) l f = (f.count_is, let r = f.rose in omega arith)
 cause-slot host rest a b c name (Full held room) l f = f
-cause-slot host rest a b c name (Damaged place about) l f = (f.0.untold, record { whole = f.0.whole; below = f.0.below }, f.1)
+cause-slot host rest a b c name (Damaged place about) l f = (f.0.untold, f.0.slot, f.1)
 
 pub fault-wider : (tells : Bool) (a c : ℕ) (P Q : ℕ → Type 0) (name : ℕ) (fault : DiskFault) → ((p : ℕ) → P p → Q p) → IsFault tells a c P name fault
     → IsFault tells a c Q name fault
@@ -61,8 +61,8 @@ pub damaged-fault : (tells : Bool) (a c : ℕ) (P : ℕ → Type 0) (name place 
 damaged-fault tells a c P name place fault is here untold = subst (IsFault tells a c P name) (sym is) (untold, here, refl)
 
 -- slot `at` of the directory
-pub slot-place : (rest : DiskRest) (at : ℕ) → at < slots_of rest.directory → IsSlotPlace rest (SLOT_BYTES * at)
-slot-place rest at within = record { whole = omega arith; below = omega (arith, within) }
+pub slot-place : (rest : DiskRest) (at : ℕ) → at < slots_of rest.directory → IsSlotPlace rest (slot_place at)
+slot-place rest at within = record { at = at; within = within; place_is = refl }
 
 pub slots-fault : {H : Type 0} (host : Ghosts H) (rest : DiskRest) (a b c : H) (i : ℕ) (fault : DiskFault) → i < slots_of rest.directory
     → host.faults a OfWork ≤ host.faults b OfWork → IsSlotCause host b c i fault
@@ -86,46 +86,46 @@ high p is = grind (arith, nat_tests)
 module _ (name : ℕ) where
   -- what holds of the search's end
   pub found-end : (P : Found → Type 0) (found : Found) → P found → IfOk (check_place found name) P
-  found-end P (Held at slot) is = either (λ r. IfOk r P) (nat_le slot.place LAST_END) (Ok (Held at slot)) (Err (Damaged (SLOT_BYTES * at) name)) (λ t. is) (λ f. tt)
+  found-end P (Held at slot) is = either (λ r. IfOk r P) (nat_le slot.place LAST_END) (Ok (Held at slot)) (Err (Damaged (slot_place at) name)) (λ t. is) (λ f. tt)
   found-end P (Vacant at) is = is
 
   pub found-place : (found : Found) → IfOk (check_place found name) IsPlaced
-  found-place (Held at slot) = either (λ r. IfOk r IsPlaced) (nat_le slot.place LAST_END) (Ok (Held at slot)) (Err (Damaged (SLOT_BYTES * at) name)) (λ t. low slot.place t) (λ f. tt)
+  found-place (Held at slot) = either (λ r. IfOk r IsPlaced) (nat_le slot.place LAST_END) (Ok (Held at slot)) (Err (Damaged (slot_place at) name)) (λ t. low slot.place t) (λ f. tt)
   found-place (Vacant at) = tt
 
   pub found-fault : (rest : DiskRest) (tells : Bool) (a c : ℕ) (found : Found) → IsOfName (slots_of rest.directory) name found
       → (IsTrue tells → (e : Entry) → found_entry found ≡ Some e → e.place ≤ LAST_END)
       → IfErr (check_place found name) (IsFault tells a c (IsSlotPlace rest) name)
   found-fault rest tells a c (Held at slot) of right =
-      either (λ r. IfErr r (IsFault tells a c (IsSlotPlace rest) name)) (nat_le slot.place LAST_END) (Ok (Held at slot)) (Err (Damaged (SLOT_BYTES * at) name)) (λ t. tt)
+      either (λ r. IfErr r (IsFault tells a c (IsSlotPlace rest) name)) (nat_le slot.place LAST_END) (Ok (Held at slot)) (Err (Damaged (slot_place at) name)) (λ t. tt)
       (λ f. ((λ told. let x = high slot.place f in let y = right told (entry_of slot) refl in omega (arith, x, y)), slot-place rest at of.0, refl))
   found-fault rest tells a c (Vacant at) of right = tt
 
   pub held-entry : (found : Found) (entry : Option Entry) → found_entry found ≡ entry → IfOk (held_slot found name) (λ held. entry ≡ Some (entry_of held.slot))
   held-entry (Held at slot) entry is =
-      either (λ r. IfOk r (λ (held : HeldSlot). entry ≡ Some (entry_of held.slot))) (nat_le slot.place LAST_END) (Ok (record { at = at; slot = slot })) (Err (Damaged (SLOT_BYTES * at) name)) (λ t. sym is) (λ f. tt)
+      either (λ r. IfOk r (λ (held : HeldSlot). entry ≡ Some (entry_of held.slot))) (nat_le slot.place LAST_END) (Ok (record { at = at; slot = slot })) (Err (Damaged (slot_place at) name)) (λ t. sym is) (λ f. tt)
   held-entry (Vacant at) entry is = tt
 
   pub held-place : (found : Found) → IfOk (held_slot found name) (λ held. held.slot.place ≤ LAST_END)
   held-place (Held at slot) =
-      either (λ r. IfOk r (λ (held : HeldSlot). held.slot.place ≤ LAST_END)) (nat_le slot.place LAST_END) (Ok (record { at = at; slot = slot })) (Err (Damaged (SLOT_BYTES * at) name)) (λ t. low slot.place t) (λ f. tt)
+      either (λ r. IfOk r (λ (held : HeldSlot). held.slot.place ≤ LAST_END)) (nat_le slot.place LAST_END) (Ok (record { at = at; slot = slot })) (Err (Damaged (slot_place at) name)) (λ t. low slot.place t) (λ f. tt)
   held-place (Vacant at) = tt
 
   pub held-at : (n : ℕ) (found : Found) → IsOfName n name found → IfOk (held_slot found name) (λ held. held.at < n)
   held-at n (Held at slot) of =
-      either (λ r. IfOk r (λ (held : HeldSlot). held.at < n)) (nat_le slot.place LAST_END) (Ok (record { at = at; slot = slot })) (Err (Damaged (SLOT_BYTES * at) name)) (λ t. of.0) (λ f. tt)
+      either (λ r. IfOk r (λ (held : HeldSlot). held.at < n)) (nat_le slot.place LAST_END) (Ok (record { at = at; slot = slot })) (Err (Damaged (slot_place at) name)) (λ t. of.0) (λ f. tt)
   held-at n (Vacant at) of = tt
 
   pub held-end : (P : Found → Type 0) (found : Found) → P found → IfOk (held_slot found name) (λ held. P (Held held.at held.slot))
   held-end P (Held at slot) is =
-      either (λ r. IfOk r (λ (held : HeldSlot). P (Held held.at held.slot))) (nat_le slot.place LAST_END) (Ok (record { at = at; slot = slot })) (Err (Damaged (SLOT_BYTES * at) name)) (λ t. is) (λ f. tt)
+      either (λ r. IfOk r (λ (held : HeldSlot). P (Held held.at held.slot))) (nat_le slot.place LAST_END) (Ok (record { at = at; slot = slot })) (Err (Damaged (slot_place at) name)) (λ t. is) (λ f. tt)
   held-end P (Vacant at) is = tt
 
   pub held-fault : (rest : DiskRest) (tells : Bool) (a c : ℕ) (found : Found) → IsOfName (slots_of rest.directory) name found
       → (IsTrue tells → (e : Entry) × (found_entry found ≡ Some e) × (e.place ≤ LAST_END))
       → IfErr (held_slot found name) (IsFault tells a c (IsSlotPlace rest) name)
   held-fault rest tells a c (Held at slot) of right =
-      either (λ r. IfErr r (IsFault tells a c (IsSlotPlace rest) name)) (nat_le slot.place LAST_END) (Ok (record { at = at; slot = slot })) (Err (Damaged (SLOT_BYTES * at) name)) (λ t. tt)
+      either (λ r. IfErr r (IsFault tells a c (IsSlotPlace rest) name)) (nat_le slot.place LAST_END) (Ok (record { at = at; slot = slot })) (Err (Damaged (slot_place at) name)) (λ t. tt)
       (λ f. ((λ told. let x = high slot.place f in let r = right told in let y = r.2 in let same = ap (λ (o : Option Entry). placed o) r.1 in omega (arith, x, y, same)), slot-place rest at of.0, refl))
     where
       placed : Option Entry → ℕ

@@ -11,3 +11,4 @@ pub mod NamesLaws
 pub mod FaultLaws
 pub mod FunctionLaws
 pub mod SwapLaws
+pub mod StayLaws

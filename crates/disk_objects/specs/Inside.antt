@@ -1,5 +1,5 @@
 -- What the functions inside say of records in Work, and of names.
-use Rattle.std.specs.Prelude.{◌≡◌, ◌≢◌, ◌⊎◌, ℕ, ◌+◌, ◌%◌, ◌<◌, ◌≤◌, List, length, ◌++◌, take, drop, max, Bool, IsTrue, Option, None, Some, Result, Ok, Err, nat_le, if◌then◌else◌, ◌*◌, ◌==◌}
+use Rattle.std.specs.Prelude.{◌≡◌, ◌≢◌, ◌⊎◌, ℕ, ◌+◌, ◌%◌, ◌<◌, ◌≤◌, List, length, ◌++◌, take, drop, max, Bool, IsTrue, Option, None, Some, Result, Ok, Err, nat_le, if◌then◌else◌, ◌==◌}
 use Rattle.std.specs.List.{list_any}
 use Rattle.std.specs.FinMap as map
 use Rattle.byteorder.specs.Endian.{big_bytes}
@@ -11,7 +11,7 @@ use Rattle.loom_host.specs.declared.outside.DiskFault.{DiskFault}
 use Rattle.loom_host.specs.declared.outside.DiskFault.TheVariants as fault
 use Rattle.long_names.specs.declared.limits.TheConstants.{LONGEST_RECORD}
 use Rattle.object_record.specs.declared.offsets.TheConstants.{CONTENTS_AT, COUNT_AT, KIND_AT, LITERALS_AT}
-use Rattle.work_directory.specs.declared.limits.TheConstants.{SLOT_BYTES}
+use Rattle.work_directory.specs.Slots.{slot_place}
 use Rattle.work_space.specs.declared.limits.TheConstants.{LAST_END}
 use Rattle.object_record.specs.Raw.{RawRecord}
 use Rattle.object_record.specs.Inside.{end_stated}
@@ -108,7 +108,7 @@ IsStepFault tells before now rest raw (fault.Damaged at about) = (IsTrue tells �
 
 -- what a search found; a slot whose place can't be one is damage there
 abbrev pub check_place : Found → ℕ → Result Found DiskFault
-check_place (found.Held at slot) name = if nat_le slot.place LAST_END then Ok (found.Held at slot) else Err (fault.Damaged (SLOT_BYTES * at) name)
+check_place (found.Held at slot) name = if nat_le slot.place LAST_END then Ok (found.Held at slot) else Err (fault.Damaged (slot_place at) name)
 check_place (found.Vacant at) name = Ok (found.Vacant at)
 
 -- the place of a slot that was found can be one
@@ -119,8 +119,8 @@ IsPlaced (found.Vacant at) = Unit {0}
 -- the slot of a name that is to be held; damage is told of the slot where the search ended
 abbrev pub held_slot : Found → ℕ → Result HeldSlot DiskFault
 held_slot (found.Held at slot) name =
-    if nat_le slot.place LAST_END then Ok (record { at = at; slot = slot }) else Err (fault.Damaged (SLOT_BYTES * at) name)
-held_slot (found.Vacant at) name = Err (fault.Damaged (SLOT_BYTES * at) name)
+    if nat_le slot.place LAST_END then Ok (record { at = at; slot = slot }) else Err (fault.Damaged (slot_place at) name)
+held_slot (found.Vacant at) name = Err (fault.Damaged (slot_place at) name)
 
 -- the directory has this under a name, and its record's head says this
 pub record IsHeld (rest : DiskRest) (work : List ℕ) (name : ℕ) (held : Held) : Type 0 where

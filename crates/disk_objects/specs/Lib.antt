@@ -4,3 +4,4 @@ pub mod Inside
 pub mod Names
 pub mod Places
 pub mod Function
+pub mod Stays

@@ -1,8 +1,8 @@
 -- The places that Damaged tells: those of the slot or the record that was read, or of the block that would have been taken.
-use Rattle.std.specs.Prelude.{◌≡◌, ◌⊎◌, ℕ, ◌%◌, ◌<◌, ◌≤◌}
+use Rattle.std.specs.Prelude.{◌≡◌, ◌⊎◌, ℕ, ◌≤◌}
 use Rattle.object_record.specs.Raw.{RawRecord}
-use Rattle.work_directory.specs.Directory.{end_of}
-use Rattle.work_directory.specs.declared.limits.TheConstants.{SLOT_BYTES}
+use Rattle.work_directory.specs.Directory.{slots_of}
+use Rattle.work_directory.specs.Slots.{IsSlotOf}
 use Rattle.work_space.specs.Space.{next_place}
 use Rattle.work_space.specs.declared.limits.TheConstants.{LAST_END}
 use Rattle.work_space.specs.declared.space.Space.{Space}
@@ -10,9 +10,8 @@ use Rattle.disk_objects.specs.declared.rest.DiskRest.{DiskRest}
 use Rattle.disk_objects.specs.Disk.{IsSizeClass, record_size}
 
 -- the place of a slot of the directory
-pub record IsSlotPlace (rest : DiskRest) (place : ℕ) : Type 0 where
-  pub whole : place % SLOT_BYTES ≡ 0
-  pub below : place < end_of rest.directory
+abbrev pub IsSlotPlace : DiskRest → ℕ → Type 0
+IsSlotPlace rest place = IsSlotOf (slots_of rest.directory) place
 
 -- the place of a slot, or one where a record may begin
 abbrev pub IsReadPlace : DiskRest → ℕ → Type 0

@@ -8,6 +8,7 @@ ghost use Rattle.object_record.specs.Buffer.{HasRecord, raw_of};
 ghost use Rattle.disk_objects.specs.Disk.{link_to};
 ghost use Rattle.disk_objects.specs.Inside.{check_place, held_slot};
 ghost use Rattle.work_directory.specs.Directory.{EndsAt, StandsAt, found_entry, Holds, HoldsDirectory, IsChanged, entries_of, slots_of};
+ghost use Rattle.work_directory.specs.Slots.{slot_place};
 ghost use Rattle.work_directory.specs.Table.{Entry, entry_of};
 ghost use Rattle.loom_host.specs.Work.{IsWorkOnly, IsWorkRead, work_of};
 
@@ -18,7 +19,7 @@ use crate::record::{
 use long_names::Name;
 use loom_host::{DiskFault, Host};
 use object_record::RecordBuf;
-use work_directory::{Directory, Found, MOST_NAMES, SLOT_BYTES, Slot, damaged};
+use work_directory::{Directory, Found, MOST_NAMES, Slot, damaged};
 use work_space::{LAST_END, Space};
 
 /// What is left of a disk without its host: the directory, the blocks and the first pending name.
@@ -96,7 +97,7 @@ fn changed(count: u64, change: i64) -> Option<u64>
 #[inline(always)]
 fn recount(count: u64, change: i64, at: u32, name: Name) -> Result<u64, DiskFault>
     ensures count { IfOk result (λ n. n ≡ unsigned_abs (pos count +ℤ change)) }
-    ensures fault { IfErr result (λ fault. (fault ≡ DiskFault.Damaged (SLOT_BYTES * at) name) × (FitsUnsigned w64 (pos count +ℤ change) → ⊥)) }
+    ensures fault { IfErr result (λ fault. (fault ≡ DiskFault.Damaged (slot_place at) name) × (FitsUnsigned w64 (pos count +ℤ change) → ⊥)) }
 {
     match changed(count, change) {
         Some(count) => Ok(count),

@@ -1,4 +1,5 @@
 pub mod Parts
+pub mod Whole
 pub mod Records
 pub mod Making
 pub mod Turn
