@@ -14,3 +14,6 @@ pub mod TouchLaws
 pub mod RoundLaws
 pub mod AloneLaws
 pub mod OnlyLaws
+pub mod SweptLaws
+pub mod PagerLaws
+pub mod FreeingLaws

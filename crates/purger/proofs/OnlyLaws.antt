@@ -1,19 +1,19 @@
 -- What has a body after a step had the same before it, and no more is in use.
 use Rattle.std.proofs.lemmas.Grind.{common_steps}
-use Rattle.std.proofs.Common.{false, ◌≢◌, ◌+◌, ◌≡◌, ◌⊎◌, ℕ, ◌≤◌, refl, sym, ◌∙◌, ap, subst, arith, Option, Some, None, Result, Ok, Err, OnOk, inl, inr, ⊎_elim}
+use Rattle.std.proofs.Common.{false, ◌≢◌, ◌+◌, ◌≡◌, ◌⊎◌, ℕ, ◌≤◌, ◌<◌, refl, sym, ◌∙◌, ap, subst, arith, Option, Some, None, Result, Ok, Err, OnOk, inl, inr, ⊎_elim}
 use Rattle.object_table.specs.Entries.{place_of}
 use Rattle.core_segment.specs.Segment.{free_of, size_of}
 use Rattle.core_view.specs.Core.{Core}
-use Rattle.core_view.specs.Kept.{IsTight}
+use Rattle.core_view.specs.Counts.{outside}
 use Rattle.core_view.specs.Purge.{IsPurged, IsSameBody}
 use Rattle.core_view.specs.Room.{is_among}
 use Rattle.core_view.proofs.Purge.{body-stays, body-then}
 use Rattle.leaf_lambda.specs.declared.parts.Parts.{Parts}
-use Rattle.leaf_lambda.specs.Parts.{core_of, spare_of, IsParts}
+use Rattle.leaf_lambda.specs.Parts.{core_of, spare_of}
 use Rattle.purger.specs.Marks.{MindsMarks}
-use Rattle.purger.specs.Purge.{HasRoom, KeepsBodies}
+use Rattle.purger.specs.Purge.{KeepsBodies}
 use Rattle.purger.specs.declared.room.RoomFault.{RoomFault}
-use Rattle.purger.specs.Rounds.{HasOnlyOf, HasNoLess, KeepsAllBut, LosesFew, LostInNeed, StopsInTime}
+use Rattle.purger.specs.Rounds.{HasOnlyOf, HasNoLess, HasSweptInVain, KeepsAllBut, LosesFew, LostInNeed, StopsInTime}
 use Rattle.purger.proofs.RoomLaws.{all-pinned, gone-purged}
 use Rattle.purger.proofs.RoundLaws.{few-none, few-part, purged-all}
 
@@ -94,8 +94,30 @@ few-behind n a b c x y = record {
   stays = λ t p at. let same = x t p at in ⊎_elim (λ g. inl g) (λ then. inr (body-then a b c t p same then)) (y.stays t same.at same.place);
 }
 
-pub lost-kept : (words entries : ℕ) (p q r : Parts) → LostInNeed words entries p q → KeepsBodies (core_of q) (core_of r) → LostInNeed words entries p r
-lost-kept words entries p q r x keeps = record {
+vain-kept : (few entries : ℕ) (p q r : Parts) → HasSweptInVain few entries p q → KeepsBodies (core_of q) (core_of r) → HasSweptInVain few entries p r
+vain-kept few entries p q r x keeps = record {
+  swept = x.swept;
+  parts = x.parts;
+  same_outside = x.same_outside;
+  only = x.only;
+  idle = x.idle;
+  wanting = x.wanting;
+  since = few-kept few (core_of x.swept) (core_of q) (core_of r) x.since keeps;
+}
+
+vain-behind : (few entries : ℕ) (p q r : Parts) → HasOnlyOf (core_of p) (core_of q) → ((t : ℕ) → outside (core_of q) t ≡ outside (core_of p) t) → HasSweptInVain few entries q r → HasSweptInVain few entries p r
+vain-behind few entries p q r only same x = record {
+  swept = x.swept;
+  parts = x.parts;
+  same_outside = λ t. x.same_outside t ∙ same t;
+  only = only-trans (core_of p) (core_of q) (core_of x.swept) only x.only;
+  idle = x.idle;
+  wanting = x.wanting;
+  since = x.since;
+}
+
+pub lost-kept : (part words entries : ℕ) (p q r : Parts) → LostInNeed part words entries p q → KeepsBodies (core_of q) (core_of r) → LostInNeed part words entries p r
+lost-kept part words entries p q r x keeps = record {
   before = x.before;
   parts = x.parts;
   tight = x.tight;
@@ -104,14 +126,15 @@ lost-kept words entries p q r x keeps = record {
   less = x.less;
   out = x.out;
   wanting = x.wanting;
+  vain = ⊎_elim (λ (low : free_of x.before.segment < words). inl low) (λ vain. inr (vain-kept (part + 1) entries p q r vain keeps)) x.vain;
   last = x.last;
   stays = λ t i at. ⊎_elim (λ (e : t ≡ x.last). inl e)
       (λ (same : IsSameBody (core_of x.before) (core_of q) t i). inr (body-then (core_of x.before) (core_of q) (core_of r) t i same (keeps t same.at same.place))) (x.stays t i at);
 }
 
-pub lost-behind : (words entries : ℕ) (p q r : Parts) → HasOnlyOf (core_of p) (core_of q) → HasNoLess p q → size_of q.segment ≡ size_of p.segment → MindsMarks (core_of p) (core_of q)
-    → LostInNeed words entries q r → LostInNeed words entries p r
-lost-behind words entries p q r only less size minds x = record {
+pub lost-behind : (part words entries : ℕ) (p q r : Parts) → HasOnlyOf (core_of p) (core_of q) → HasNoLess p q → size_of q.segment ≡ size_of p.segment → MindsMarks (core_of p) (core_of q) → ((t : ℕ) → outside (core_of q) t ≡ outside (core_of p) t)
+    → LostInNeed part words entries q r → LostInNeed part words entries p r
+lost-behind part words entries p q r only less size minds same x = record {
   before = x.before;
   parts = x.parts;
   tight = x.tight;
@@ -120,48 +143,31 @@ lost-behind words entries p q r only less size minds x = record {
   less = less-trans p q x.before less x.less;
   out = λ n o. x.out n (minds.out n o);
   wanting = x.wanting;
+  vain = ⊎_elim (λ (low : free_of x.before.segment < words). inl low) (λ vain. inr (vain-behind (part + 1) entries p q r only same vain)) x.vain;
   last = x.last;
   stays = x.stays;
 }
 
 pub stops-kept : (part words entries : ℕ) (p q r : Parts) → StopsInTime part words entries p q → KeepsBodies (core_of q) (core_of r) → StopsInTime part words entries p r
-stops-kept part words entries p q r x keeps = ⊎_elim (λ few. inl (few-kept part (core_of p) (core_of q) (core_of r) few keeps)) (λ need. inr (lost-kept words entries p q r need keeps)) x
+stops-kept part words entries p q r x keeps = ⊎_elim (λ few. inl (few-kept part (core_of p) (core_of q) (core_of r) few keeps)) (λ need. inr (lost-kept part words entries p q r need keeps)) x
 
 pub stops-none : (part words entries : ℕ) (p q : Parts) → KeepsBodies (core_of p) (core_of q) → StopsInTime part words entries p q
 stops-none part words entries p q keeps = inl (few-part 0 part (core_of p) (core_of q) (omega arith) (few-kept 0 (core_of p) (core_of p) (core_of q) (few-none (core_of p)) keeps))
 
-pub stops-behind : (part words entries : ℕ) (p q r : Parts) → KeepsBodies (core_of p) (core_of q) → HasOnlyOf (core_of p) (core_of q) → HasNoLess p q → size_of q.segment ≡ size_of p.segment → MindsMarks (core_of p) (core_of q)
+pub stops-behind : (part words entries : ℕ) (p q r : Parts) → KeepsBodies (core_of p) (core_of q) → HasOnlyOf (core_of p) (core_of q) → HasNoLess p q → size_of q.segment ≡ size_of p.segment → MindsMarks (core_of p) (core_of q) → ((t : ℕ) → outside (core_of q) t ≡ outside (core_of p) t)
     → StopsInTime part words entries q r → StopsInTime part words entries p r
-stops-behind part words entries p q r keeps only less size minds x =
-    ⊎_elim (λ few. inl (few-behind part (core_of p) (core_of q) (core_of r) keeps few)) (λ need. inr (lost-behind words entries p q r only less size minds need)) x
+stops-behind part words entries p q r keeps only less size minds same x =
+    ⊎_elim (λ few. inl (few-behind part (core_of p) (core_of q) (core_of r) keeps few)) (λ need. inr (lost-behind part words entries p q r only less size minds same need)) x
 
-pub still-kept : (words entries : ℕ) (p q r : Parts) → KeepsBodies (core_of p) (core_of q) ⊎ LostInNeed words entries p q → KeepsBodies (core_of q) (core_of r) → KeepsBodies (core_of p) (core_of r) ⊎ LostInNeed words entries p r
-still-kept words entries p q r x keeps =
-    ⊎_elim (λ (all : KeepsBodies (core_of p) (core_of q)). inl (keeps-trans (core_of p) (core_of q) (core_of r) all keeps)) (λ need. inr (lost-kept words entries p q r need keeps)) x
+pub still-kept : (part words entries : ℕ) (p q r : Parts) → KeepsBodies (core_of p) (core_of q) ⊎ LostInNeed part words entries p q → KeepsBodies (core_of q) (core_of r) → KeepsBodies (core_of p) (core_of r) ⊎ LostInNeed part words entries p r
+still-kept part words entries p q r x keeps =
+    ⊎_elim (λ (all : KeepsBodies (core_of p) (core_of q)). inl (keeps-trans (core_of p) (core_of q) (core_of r) all keeps)) (λ need. inr (lost-kept part words entries p q r need keeps)) x
 
 -- a round that made no room, and what left behind it
-pub stops-then : (part words entries : ℕ) (p q r : Parts) → StopsInTime part words entries p q → HasOnlyOf (core_of p) (core_of q) → HasNoLess p q → size_of q.segment ≡ size_of p.segment → MindsMarks (core_of p) (core_of q)
-    → KeepsBodies (core_of q) (core_of r) ⊎ LostInNeed words entries q r → StopsInTime part words entries p r
-stops-then part words entries p q r x only less size minds y =
-    ⊎_elim (λ (keeps : KeepsBodies (core_of q) (core_of r)). stops-kept part words entries p q r x keeps) (λ (need : LostInNeed words entries q r). inr (lost-behind words entries p q r only less size minds need)) y
-
--- once through the table
-pub stops-more : (words entries s : ℕ) (p q r : Parts) → KeepsBodies (core_of p) (core_of q) ⊎ LostInNeed words entries p q → IsParts q → IsTight (core_of q) → size_of q.segment ≡ size_of p.segment
-    → HasOnlyOf (core_of p) (core_of q) → HasNoLess p q → MindsMarks (core_of p) (core_of q) → KeepsBodies (core_of q) (core_of r) ⊎ (HasRoom q words entries → ⊥) → KeepsAllBut s (core_of q) (core_of r)
-    → KeepsBodies (core_of p) (core_of r) ⊎ LostInNeed words entries p r
-stops-more words entries s p q r x parts tight size only less minds goes one =
-    ⊎_elim (λ (keeps : KeepsBodies (core_of q) (core_of r)). still-kept words entries p q r x keeps) (λ (none : HasRoom q words entries → ⊥). inr record {
-      before = q;
-      parts = parts;
-      tight = tight;
-      size = size;
-      only = only;
-      less = less;
-      out = minds.out;
-      wanting = none;
-      last = s;
-      stays = one;
-    }) goes
+pub stops-then : (part words entries : ℕ) (p q r : Parts) → StopsInTime part words entries p q → HasOnlyOf (core_of p) (core_of q) → HasNoLess p q → size_of q.segment ≡ size_of p.segment → MindsMarks (core_of p) (core_of q) → ((t : ℕ) → outside (core_of q) t ≡ outside (core_of p) t)
+    → KeepsBodies (core_of q) (core_of r) ⊎ LostInNeed part words entries q r → StopsInTime part words entries p r
+stops-then part words entries p q r x only less size minds same y =
+    ⊎_elim (λ (keeps : KeepsBodies (core_of q) (core_of r)). stops-kept part words entries p q r x keeps) (λ (need : LostInNeed part words entries q r). inr (lost-behind part words entries p q r only less size minds same need)) y
 
 pub ok-room : {A : Type 0} (r : Result A RoomFault) {P : Type 0} → P → OnOk r P
 ok-room (Ok x) p = p

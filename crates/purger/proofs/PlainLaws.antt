@@ -10,7 +10,7 @@ use Rattle.object_table.specs.Entries.{place_of}
 use Rattle.core_view.specs.Core.{Core}
 use Rattle.core_view.specs.Counts.{holders, holders_in, marked_by, marked_of, outside, tally, uses}
 use Rattle.core_view.specs.Held.{Disk, fields_there, held, held_by, held_in, object_at}
-use Rattle.core_view.specs.Kept.{IsBacked, IsBody, IsCore, IsLike, Stays}
+use Rattle.core_view.specs.Kept.{IsBacked, IsCore, IsLike, Stays}
 use Rattle.core_view.specs.Words.{body_in}
 use Rattle.purger.specs.Marks.{unmarked, IsUnmarking}
 

@@ -1,12 +1,12 @@
 -- One flag of entries differs, and nothing else: what it leaves as it was. All of it is about cores alone, but the last.
-use Rattle.std.proofs.Common.{◌≡◌, ℕ, ◌+◌, Bool, true, refl, sym, ◌∙◌, ap, subst, arith, Option, Some, None, inl, count_by}
+use Rattle.std.proofs.Common.{◌≡◌, ℕ, ◌+◌, Bool, true, refl, sym, ◌∙◌, ap, arith, Option, Some, None, count_by}
 use Rattle.loom_host.specs.declared.outside.Host.{Ghosts}
 use Rattle.disk_objects.specs.declared.rest.DiskRest.{DiskRest}
 use Rattle.object_table.specs.declared.entry.Entry.{Entry}
 use Rattle.object_table.specs.Entries.{put, is_used, place_of, sum_below, with_touched}
 use Rattle.core_segment.specs.Chunks.{Chunk}
 use Rattle.core_view.specs.Core.{Core, with_entry}
-use Rattle.core_view.specs.Counts.{names, holders_in, holders, outside, marked_by, marked_of, change_by}
+use Rattle.core_view.specs.Counts.{names, holders_in, holders, outside, marked_by, change_by}
 use Rattle.core_view.specs.Kept.{IsCore, IsTight, Stays}
 use Rattle.core_view.specs.Purge.{IsPurged, fresh_by, fresh_of}
 use Rattle.core_view.proofs.Entries.{IsStep, at-entry, touch-step, touch-held, touch-backed, step-core, step-outside}

@@ -6,3 +6,5 @@ pub mod Closing
 pub mod Touches
 pub mod Rounds
 pub mod Alone
+pub mod Pager
+pub mod Freeing

@@ -216,7 +216,7 @@ fn free_gone<H: Host>(
 
 // Frees the object of an entry, if it has a body and is dead. Where it was, and something may go with it, its record is in the buffer then; else
 // that has what it had.
-fn free_dead_at<H: Host>(
+pub(crate) fn free_dead_at<H: Host>(
     p: &mut Parts,
     disk: &mut DiskObjects<'_, H>,
     buf: &mut RecordBuf,
@@ -251,7 +251,7 @@ fn free_dead_at<H: Host>(
 
 // The entry of what a long word names, if it names an object that has one.
 #[inline(always)]
-fn entry_of(p: &Parts, long: u32) -> Option<Short>
+pub(crate) fn entry_of(p: &Parts, long: u32) -> Option<Short>
     requires parts { IsParts p.now }
     ensures used { IfSome result (λ s. is_used ((core_of p.now).entries s.0).state ≡ true) }
 {
@@ -326,7 +326,7 @@ fn free_held<H: Host>(
 
 // With which of the dead objects that one held it goes on.
 #[derive(Clone, Copy, Debug, PartialEq, Eq)]
-enum Next {
+pub(crate) enum Next {
     First,
     Last,
 }
@@ -334,7 +334,7 @@ enum Next {
 impl Next {
     // The field that is looked at while so many of all are left behind it.
     #[inline(always)]
-    fn field(&self, left: u32, all: u32) -> u32
+    pub(crate) fn field(&self, left: u32, all: u32) -> u32
         requires { left < all }
         ensures { result < all }
     {

@@ -3,9 +3,10 @@
 //! `evict` writes an object back where it differs from its record, takes its body, and folds its change of count. `make_room` evicts objects
 //! while room is wanting, gives up leaves to which nothing refers, and moves bodies together; three pinned objects stay. Where there is room,
 //! nothing goes. What goes is looked for by a hand that goes round the table, from call to call: it takes what is neither pinned nor marked,
-//! over a 32nd part of the table at least, so that leaves are swept up and bodies moved together once for many objects. Where a whole round
-//! isn't enough, the table is gone over from its first entry on, and marked objects go too. `Short` is answered only where nothing but pinned
-//! objects is left and that isn't enough.
+//! over a 32nd part of the table at least, or a quarter of the entries in use, so that leaves are swept up and bodies moved together once for
+//! many objects. Where entries alone are wanting, leaves are swept up again before more than such a part has left (`stops`). Where a whole
+//! round isn't enough, the table is gone over from its first entry on, and marked objects go too. `Short` is answered only where nothing but
+//! pinned objects is left and that isn't enough.
 //!
 //!     make_room(&mut parts, &mut disk, &mut buf, words, entries, &pinned, &mut hand)?;
 //!
@@ -21,6 +22,10 @@
 //! object that dies alone no record is made: counts are lowered from its short words (`alone`). `close` lets everything leave a core from
 //! which nothing is named: the disk has just the kept objects then, with their exact counts (`HasKept`).
 //!
+//! `Pager` is the core and the disk (`TwoLevels` of delta_counts), the buffer for records, the three pinned objects and the hand as one struct. Its
+//! calls owe one condition (`IsReady`), one frame and one effect, by what becomes of the heap: where objects leave, `Spares` and `Preserves`
+//! (`specs/Pager.antt`), and where what is dead goes, `LeavesNamed` and `ThinsHeap` (`specs/Freeing.antt`).
+//!
 //! Read `specs/Purge.antt`, then `Counts.antt`, `Marks.antt`, `Draining.antt` and `Closing.antt`. What moves one body is leaf_lambda's, and what
 //! joins its calls with counts stands in `laws`.
 //!
@@ -34,13 +39,16 @@ mod alone;
 pub mod closing;
 pub mod draining;
 pub mod eviction;
+pub mod freeing;
 mod idle;
 pub mod laws;
 pub mod marks;
+pub mod pager;
 pub mod room;
 pub mod touches;
 
 pub use closing::close;
 pub use draining::drain;
 pub use eviction::{NOWHERE, evict};
+pub use pager::Pager;
 pub use room::{Pinned, RoomFault, compact, make_room};

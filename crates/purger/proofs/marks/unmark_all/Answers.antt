@@ -1,9 +1,8 @@
 use Rattle.std.proofs.Common.{◌≡◌, ℕ, ◌+◌, ◌*◌, refl, sym, ◌∙◌, ap, subst, arith}
-use Rattle.object_table.specs.Table.{entries_of, free_of}
 use Rattle.core_view.specs.Core.{Core}
 use Rattle.core_view.specs.Counts.{marked_of, outside}
 use Rattle.core_view.specs.Kept.{IsCore, Stays}
-use Rattle.leaf_lambda.specs.Parts.{core_of, spare_of}
+use Rattle.leaf_lambda.specs.Parts.{core_of}
 use Rattle.leaf_lambda.proofs.StepLaws.{core-is}
 use Rattle.purger.specs.Marks.{IsUnmarking}
 use Rattle.purger.proofs.PlainLaws.{plain, plain-core, plain-none, plain-outside, plain-stays, plain-step}

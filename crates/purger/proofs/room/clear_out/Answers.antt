@@ -1,12 +1,16 @@
-use Rattle.std.proofs.Common.{◌*◌, ◌+◌, inl, inr, refl, sym, subst, ◌∙◌, arith, ⊎_elim}
+use Rattle.std.proofs.Common.{ℕ, ◌*◌, ◌+◌, ◌/◌, inl, inr, refl, sym, subst, ap, ◌∙◌, arith, ⊎_elim}
+use Rattle.object_table.specs.Table.{entries_of}
 use Rattle.core_view.proofs.Purge.{Purged-refl, Purged-trans, gone-first, gone-more}
 use Rattle.purger.proofs.RoomLaws.{placed-before}
 use Rattle.leaf_lambda.specs.declared.parts.Parts.{Parts}
 use Rattle.leaf_lambda.specs.Parts.{core_of}
 use Rattle.purger.specs.Purge.{HasRoom}
+use Rattle.purger.specs.Rounds.{IsFewBehind}
+use Rattle.purger.specs.declared.room.TheConstants.{ROUND_PARTS}
 use Rattle.purger.proofs.MarkLaws.{Marks-trans, Marks-same, Kept-refl}
 use Rattle.purger.proofs.MindLaws.{minds-kept, minds-refl, minds-trans, purged-came}
-use Rattle.purger.proofs.OnlyLaws.{keeps-refl, less-refl, less-trans, ok-room, only-refl, only-trans, still-kept, stops-more}
+use Rattle.purger.proofs.OnlyLaws.{keeps-refl, less-refl, less-trans, ok-room, only-refl, only-trans, still-kept}
+use Rattle.purger.proofs.SweptLaws.{through-more, through-none}
 use Rattle.purger.proofs.RoomLaws.{all-pinned, bound-entries, disk-later, undisturbed-map, undisturbed-of, work-refl, work-trans}
 use Rattle.purger.proofs.SoundLaws.{has-after, has-number, sound-refl, sound-trans}
 use Rattle.purger.proofs.room.clear_out.Goals as goal
@@ -19,7 +23,7 @@ loop-i-init g c = record {
   gone = inr (λ s at low place. gone-first (core_of c.args.p.now) c.args.pinned.now.a c.args.pinned.now.b c.args.pinned.now.d s at c.requires.parts.core (omega arith) place);
   only = only-refl (core_of c.args.p.now);
   less = less-refl c.args.p.now;
-  stops = inl (keeps-refl (core_of c.args.p.now));
+  through = through-none (entries_of c.args.p.now.names.table / ROUND_PARTS) c.args.words c.args.entries c.args.p.now c.requires.parts c.requires.idle (keeps-refl (core_of c.args.p.now));
   sound = λ told. sound-refl g.H.Host c.args.p.now c.args.disk.now.host.now c.args.disk.now.rest;
   marks = Marks-same (core_of c.args.p.now) (core_of c.args.p.now) (Kept-refl (core_of c.args.p.now));
   minds = minds-refl (core_of c.args.p.now);
@@ -61,7 +65,9 @@ loop-i-preserved g c =
       gone = ⊎_elim (λ has. inl (subst (λ (p : Parts). HasRoom p c.args.words c.args.entries) (sym (e.needless has).1) has)) (λ before. ⊎_elim (λ has. inl has) (λ here. inr (λ s at low place. gone-more c.args.pinned.now.a c.args.pinned.now.b c.args.pinned.now.d c.loop-i.i s at (core_of c.loop-i.p) (core_of c.evict_more.new.p) e.parts.core e.purged before here low place)) r.gone) i.gone;
       only = only-trans (core_of c.args.p.now) (core_of c.loop-i.p) (core_of c.evict_more.new.p) i.only r.only;
       less = less-trans c.args.p.now c.loop-i.p c.evict_more.new.p i.less r.less;
-      stops = stops-more c.args.words c.args.entries (2 * c.loop-i.i + 2) c.args.p.now c.loop-i.p c.evict_more.new.p i.stops i.parts i.tight i.size i.only i.less i.minds r.stops e.one;
+      through = through-more (entries_of c.args.p.now.names.table / ROUND_PARTS) c.args.words c.args.entries c.loop-i.i c.loop-i.behind.left c.in-Ok.then.left (2 * c.loop-i.i + 2) c.args.p.now c.loop-i.p c.evict_more.new.p i.through i.parts i.tight i.size i.only i.less i.minds r.stops e.one
+          e.parts (λ t. e.purged.same_outside t ∙ i.purged.same_outside t) (only-trans (core_of c.args.p.now) (core_of c.loop-i.p) (core_of c.evict_more.new.p) i.only r.only) r.less r.behind
+          (subst (λ (n : ℕ). IsFewBehind n c.args.words c.args.entries c.loop-i.p c.loop-i.behind.left → IsFewBehind n c.args.words c.args.entries c.evict_more.new.p c.in-Ok.then.left) (ap (λ (n : ℕ). n / ROUND_PARTS) c.entries-part.ensures.entries) r.few);
       sound = λ told. sound-trans g.H.Host c.args.p.now c.loop-i.p c.evict_more.new.p c.args.disk.now.host.now c.loop-i.disk.host.now c.evict_more.new.disk.host.now c.args.disk.now.rest c.loop-i.disk.rest c.evict_more.new.disk.rest (i.sound told) (r.sound told);
       marks = Marks-trans (core_of c.args.p.now) (core_of c.loop-i.p) (core_of c.evict_more.new.p) i.marks e.marks;
       minds = minds-trans (core_of c.args.p.now) (core_of c.loop-i.p) (core_of c.evict_more.new.p) i.minds r.minds;
@@ -113,5 +119,8 @@ returns-clause-minds g c = undisturbed-of c.last_room.result (minds-trans (core_
     (minds-kept (core_of c.loop-i.p) (core_of c.last_room.new.p) (purged-came (core_of c.loop-i.p) (core_of c.last_room.new.p) c.last_room.ensures.purged) c.last_room.ensures.marks))
 
 pub returns-clause-stops : goal.returns-clause-stops
-returns-clause-stops g c = ok-room c.last_room.result (still-kept c.args.words c.args.entries c.args.p.now c.loop-i.p c.last_room.new.p c.loop-i.invariant.stops
+returns-clause-stops g c = ok-room c.last_room.result (still-kept (entries_of c.args.p.now.names.table / ROUND_PARTS) c.args.words c.args.entries c.args.p.now c.loop-i.p c.last_room.new.p c.loop-i.invariant.through.stops
     (all-pinned (core_of c.loop-i.p) (core_of c.last_room.new.p) c.last_room.ensures.purged))
+
+pub evict_more-requires-clause-small : goal.evict_more-requires-clause-small
+evict_more-requires-clause-small g c = let low = c.loop-i.invariant.through.low in let end = c.loop-i-test.true in let small = c.used_end-i-end.ensures.small in omega arith

@@ -1,4 +1,4 @@
-use Rattle.std.proofs.Common.{ℕ, ◌≡◌, ◌<◌, ◌+◌, ◌*◌, ◌⊎◌, true, Some, IsTrue}
+use Rattle.std.proofs.Common.{ℕ, ◌≡◌, ◌<◌, ◌+◌, ◌*◌, ◌/◌, ◌⊎◌, true, Some, IsTrue}
 use Rattle.loom_host.specs.declared.outside.Role.TheVariants.{Work}
 use Rattle.loom_host.specs.Work.{IsWorkOnly}
 use Rattle.object_table.specs.Entries.{place_of}
@@ -11,8 +11,10 @@ use Rattle.core_view.specs.Room.{is_among}
 use Rattle.leaf_lambda.specs.Parts.{core_of, IsParts}
 use Rattle.purger.specs.Counts.{KeepsSound}
 use Rattle.purger.specs.Marks.{AreHere, LeavesMarks, MindsMarks}
-use Rattle.purger.specs.Purge.{HasRoom, KeepsBodies}
-use Rattle.purger.specs.Rounds.{HasNoLess, HasOnlyOf, LostInNeed}
+use Rattle.purger.specs.Purge.{HasRoom}
+use Rattle.purger.specs.Rounds.{HasNoLess, HasOnlyOf}
+use Rattle.purger.specs.declared.room.TheConstants.{ROUND_PARTS}
+use Rattle.purger.proofs.SweptLaws.{IsThrough}
 use Rattle.purger.proofs.room.clear_out.Given as goal
 
 abbrev pub invariant-loop-i : goal.invariant-loop-i
@@ -23,7 +25,7 @@ invariant-loop-i g l = record {
   gone : HasRoom l.p l.fn.words l.fn.entries ⊎ ((s at : ℕ) → s < 2 * l.i + 2 → place_of ((core_of l.p).entries s).state ≡ Some at → is_among l.fn.pinned.a l.fn.pinned.b l.fn.pinned.d s ≡ true);
   only : HasOnlyOf (core_of l.fn.p) (core_of l.p);
   less : HasNoLess l.fn.p l.p;
-  stops : KeepsBodies (core_of l.fn.p) (core_of l.p) ⊎ LostInNeed l.fn.words l.fn.entries l.fn.p l.p;
+  through : IsThrough (entries_of l.fn.p.names.table / ROUND_PARTS) l.fn.words l.fn.entries l.i l.behind.left l.fn.p l.p;
   sound : IsTrue (g.H.Host.tells Work) → KeepsSound g.H.Host l.fn.p l.fn.disk.host.now l.fn.disk.rest l.p l.disk.host.now l.disk.rest;
   marks : LeavesMarks (core_of l.fn.p) (core_of l.p);
   minds : MindsMarks (core_of l.fn.p) (core_of l.p);

@@ -1,4 +1,4 @@
-use Rattle.std.proofs.Common.{◌≡◌, None, Some, inl, inr, sym, ◌∙◌}
+use Rattle.std.proofs.Common.{◌≡◌, None, Some, inl, inr, refl, sym, ◌∙◌}
 use Rattle.core_view.proofs.Purge.{Purged-refl}
 use Rattle.leaf_lambda.specs.Parts.{core_of}
 use Rattle.delta_counts.proofs.LowerLaws.{ok-map, ok-of}
@@ -7,6 +7,7 @@ use Rattle.purger.proofs.MindLaws.{minds-refl}
 use Rattle.purger.proofs.RoomLaws.{work-refl}
 use Rattle.purger.proofs.SoundLaws.{sound-refl}
 use Rattle.purger.proofs.OnlyLaws.{keeps-refl, less-refl, only-refl}
+use Rattle.purger.proofs.SweptLaws.{if-ok}
 use Rattle.purger.proofs.RoundLaws.{kept-all, purged-all}
 use Rattle.purger.proofs.room.evict_more.Goals as goal
 
@@ -84,3 +85,21 @@ returns-then-not-may_leave-clause-stops g c = inl (keeps-refl (core_of c.args.p.
 
 pub returns-clause-stops : goal.returns-clause-stops
 returns-clause-stops g c = ok-of c.evict_one.result (inr (c.has_room.ensures.lacks c.if-has_room.false))
+
+pub returns-then-has_room-clause-behind : goal.returns-then-has_room-clause-behind
+returns-then-has_room-clause-behind g c = inl (refl, keeps-refl (core_of c.args.p.now))
+
+pub returns-then-not-may_leave-clause-behind : goal.returns-then-not-may_leave-clause-behind
+returns-then-not-may_leave-clause-behind g c = inl (refl, keeps-refl (core_of c.args.p.now))
+
+pub returns-clause-behind : goal.returns-clause-behind
+returns-clause-behind g c = if-ok c.evict_one.result (λ b counted. inr counted) c.evict_one.ensures.behind
+
+pub returns-then-has_room-clause-few : goal.returns-then-has_room-clause-few
+returns-then-has_room-clause-few g c = λ few. few
+
+pub returns-then-not-may_leave-clause-few : goal.returns-then-not-may_leave-clause-few
+returns-then-not-may_leave-clause-few g c = λ few. few
+
+pub returns-clause-few : goal.returns-clause-few
+returns-clause-few g c = if-ok c.evict_one.result (λ b few was. few) c.evict_one.ensures.few

@@ -58,3 +58,6 @@ pub returns-clause-only : goal.returns-clause-only
 returns-clause-only g c = ok-of c.free_enough.result (only-trans (core_of c.args.p.now) (core_of c.leave.new.p) (core_of c.free_enough.new.p)
     (only-gone c.args.s.0 (core_of c.args.p.now) (core_of c.leave.new.p) c.leave.ensures.purged c.in_ok-leave.ensures.gone)
     (only-all (core_of c.leave.new.p) (core_of c.free_enough.new.p) c.free_enough.ensures.purged))
+
+pub returns-clause-behind : goal.returns-clause-behind
+returns-clause-behind g c = c.free_enough.ensures.behind

@@ -1,3 +1,4 @@
+use Rattle.std.proofs.Common.{inl, inr, refl, arith}
 use Rattle.loom_host.proofs.WorkLaws.{exits}
 use Rattle.core_view.proofs.Purge.{Purged-refl}
 use Rattle.leaf_lambda.specs.Parts.{core_of}
@@ -22,3 +23,15 @@ returns-then-not-is_worth_a_sweep-clause-work g c = work-refl g.H.Host c.args.di
 pub returns-in_err-free_idle-clause-fault : goal.returns-in_err-free_idle-clause-fault
 returns-in_err-free_idle-clause-fault g c =
     exits c.from_residual.result c.in_err-free_idle.field-0.0 (IsPurgeFault g.H.Host c.args.disk.now.host.now c.free_idle.new.disk.host.now) c.from_residual.ensures.1 c.in_err-free_idle.ensures.fault
+
+pub returns-then-not-is_worth_a_sweep-clause-behind : goal.returns-then-not-is_worth_a_sweep-clause-behind
+returns-then-not-is_worth_a_sweep-clause-behind g c = inl refl
+
+pub returns-then-not-is_worth_a_sweep-clause-few : goal.returns-then-not-is_worth_a_sweep-clause-few
+returns-then-not-is_worth_a_sweep-clause-few g c = c.is_worth_a_sweep.ensures.no c.if-not-is_worth_a_sweep.true
+
+pub returns-clause-behind : goal.returns-clause-behind
+returns-clause-behind g c = inr (refl, c.in_ok-free_idle.ensures.idle)
+
+pub returns-clause-few : goal.returns-clause-few
+returns-clause-few g c = inl (omega arith)

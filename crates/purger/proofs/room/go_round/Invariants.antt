@@ -11,7 +11,7 @@ use Rattle.purger.specs.Counts.{KeepsSound}
 use Rattle.purger.specs.Marks.{AreHere, LeavesMarks, MindsMarks}
 use Rattle.purger.specs.Rounds.{HasNoLess, HasOnlyOf}
 use Rattle.purger.specs.declared.room.TheConstants.{ROUND_PARTS}
-use Rattle.purger.proofs.RoundLaws.{IsRound}
+use Rattle.purger.proofs.SweptLaws.{IsRound}
 use Rattle.purger.proofs.room.go_round.Given as goal
 
 abbrev pub invariant-loop-i : goal.invariant-loop-i
@@ -22,7 +22,7 @@ invariant-loop-i g l = record {
   sound : IsTrue (g.H.Host.tells Work) → KeepsSound g.H.Host l.fn.p l.fn.disk.host.now l.fn.disk.rest l.p l.disk.host.now l.disk.rest;
   only : HasOnlyOf (core_of l.fn.p) (core_of l.p);
   less : HasNoLess l.fn.p l.p;
-  round : IsRound (entries_of l.fn.p.names.table / ROUND_PARTS) l.fn.words l.fn.entries l.i l.fn.p l.p;
+  round : IsRound (entries_of l.fn.p.names.table / ROUND_PARTS) l.fn.words l.fn.entries l.i l.behind.left l.fn.p l.p;
   marks : LeavesMarks (core_of l.fn.p) (core_of l.p);
   minds : MindsMarks (core_of l.fn.p) (core_of l.p);
   here : AreHere (core_of l.p);

@@ -138,5 +138,8 @@ returns-in-Ok-clause-stops g c =
     room-map c.purge.result (λ (then : StopsInTime (entries_of q.names.table / ROUND_PARTS) c.args.words c.args.entries q c.purge.new.p).
     stops-behind (entries_of p.names.table / ROUND_PARTS) c.args.words c.args.entries p q c.purge.new.p (all-pinned (core_of p) (core_of q) all) (only-all (core_of p) (core_of q) all)
     (less-same p q c.free_idle.ensures.segment c.free_idle.ensures.more) (ap size_of c.free_idle.ensures.segment)
-    (minds-kept (core_of p) (core_of q) (purged-came (core_of p) (core_of q) all) c.free_idle.ensures.marks)
+    (minds-kept (core_of p) (core_of q) (purged-came (core_of p) (core_of q) all) c.free_idle.ensures.marks) (all 0 0 0).same_outside
     (subst (λ (n : ℕ). StopsInTime n c.args.words c.args.entries q c.purge.new.p) part then)) c.purge.ensures.stops
+
+pub purge-requires-clause-idle : goal.purge-requires-clause-idle
+purge-requires-clause-idle g c = c.in-Ok.ensures.idle

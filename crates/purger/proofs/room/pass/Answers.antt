@@ -5,9 +5,10 @@ use Rattle.purger.proofs.MindLaws.{minds-refl}
 use Rattle.purger.proofs.RoomLaws.{all-pinned, work-refl}
 use Rattle.purger.proofs.RoundLaws.{kept-all, purged-all}
 use Rattle.purger.proofs.SoundLaws.{sound-refl}
-use Rattle.purger.proofs.TouchLaws.{touch-purged, touch-sound, touch-marks, touch-minds, touch-here, touch-tight, touch-fresh}
-use Rattle.std.proofs.Common.{arith}
-use Rattle.purger.proofs.OnlyLaws.{less-refl, less-same, only-all, only-refl}
+use Rattle.purger.proofs.TouchLaws.{touch-purged, touch-sound, touch-here}
+use Rattle.std.proofs.Common.{inl, inr, refl, arith}
+use Rattle.purger.proofs.OnlyLaws.{keeps-refl, less-refl, less-same, only-all, only-refl}
+use Rattle.purger.proofs.SweptLaws.{few-same, if-ok}
 use Rattle.purger.proofs.room.pass.Goals as goal
 
 pub returns-then-not-may_go-clause-purged : goal.returns-then-not-may_go-clause-purged
@@ -54,3 +55,21 @@ returns-then-is_touched-clause-only g c = only-all (core_of c.args.p.now) (core_
 
 pub returns-then-is_touched-clause-less : goal.returns-then-is_touched-clause-less
 returns-then-is_touched-clause-less g c = less-same c.args.p.now c.untouch.new.p c.untouch.ensures.segment (let same = c.untouch.ensures.spare in omega arith)
+
+pub returns-then-not-may_go-clause-behind : goal.returns-then-not-may_go-clause-behind
+returns-then-not-may_go-clause-behind g c = inl (refl, keeps-refl (core_of c.args.p.now))
+
+pub returns-then-is_touched-clause-behind : goal.returns-then-is_touched-clause-behind
+returns-then-is_touched-clause-behind g c = inl (refl, all-pinned (core_of c.args.p.now) (core_of c.untouch.new.p) (λ a b k. touch-purged a b k (core_of c.args.p.now) (core_of c.untouch.new.p) c.untouch.ensures.step c.untouch.ensures.outside))
+
+pub returns-clause-behind : goal.returns-clause-behind
+returns-clause-behind g c = if-ok c.evict_one.result (λ b counted. inr counted) c.evict_one.ensures.behind
+
+pub returns-then-not-may_go-clause-few : goal.returns-then-not-may_go-clause-few
+returns-then-not-may_go-clause-few g c = λ few. few
+
+pub returns-then-is_touched-clause-few : goal.returns-then-is_touched-clause-few
+returns-then-is_touched-clause-few g c = λ few. few-same c.args.part c.args.words c.args.entries c.args.behind.left c.args.p.now c.untouch.new.p c.untouch.ensures.segment c.untouch.ensures.spare few
+
+pub returns-clause-few : goal.returns-clause-few
+returns-clause-few g c = if-ok c.evict_one.result (λ b few was. few) c.evict_one.ensures.few

@@ -1,4 +1,3 @@
-use Rattle.std.proofs.Common.{refl, sym, ◌∙◌}
 use Rattle.core_view.proofs.Steps.{Stays-refl}
 use Rattle.leaf_lambda.specs.Parts.{core_of}
 use Rattle.purger.proofs.TouchLaws.{Touching-refl}
