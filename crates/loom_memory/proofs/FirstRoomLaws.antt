@@ -68,10 +68,6 @@ alive-last {T} {H} (Err f) host u v again quiet = tt
 pub alive-anew : (t u : Told) (base : Option ℕ) → HasBegun t u base → IsAlive t → IsAlive u
 alive-anew t u base begun alive = λ told. ap (λ (z : Told). kept z.heap (is_root z)) begun.same ∙ alive (ap (λ (z : Told). z.tells) (sym begun.same) ∙ told) ∙ sym (ap (λ (z : Told). z.heap) begun.same)
 
-pub gone-where : {T H P : Type 0} (r : Result T MemFault) (host : Ghosts H) (m u v : LoomMemory H) (words entries : ℕ) → (P → u ≡ m) → OnOk r (IsFreed host u v words entries) → OnOk r (P → IsFreed host m v words entries)
-gone-where {T} {H} {P} (Ok x) host m u v words entries same gone = λ p. subst (λ (z : LoomMemory H). IsFreed host z v words entries) (same p) gone
-gone-where {T} {H} {P} (Err f) host m u v words entries same gone = tt
-
 -- what is thinned then is as it was
 pub alive-thinned : (t u : Told) → HasThinned t u → IsReady t → IsAlive t → IsAlive u
 alive-thinned t u thin ready alive = λ told.
@@ -106,11 +102,6 @@ gone-loaded {H} host m u n s k ready thin first same name last told leaf lacks d
         let all : IsFreed host m n (words_at (loom_told host m).heap ((core_of m.parts).entries s).name) 27 =
         subst (λ (z : LoomMemory H). place_of ((core_of z.parts).entries s).state ≡ None → IsFreed host z n (words_at (loom_told host z).heap ((core_of z.parts).entries s).name) 27) is (last told) leaf in
         all (λ room. lacks (subst (λ (j : ℕ). HasRoom m.parts (words_at (loom_told host m).heap j) 27) (sym name) room)) due
-
--- of an object that isn't there
-pub gone-for : {T : Type 0} (r : Result T MemFault) (P Q R S : Type 0) → P → OnOk r (S → P → R) → OnOk r (S → Q → R)
-gone-for {T} (Ok x) P Q R S p gone = λ told q. gone told p
-gone-for {T} (Err f) P Q R S p gone = tt
 
 -- ---- a leaf that is named from outside
 

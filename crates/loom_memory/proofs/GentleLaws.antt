@@ -519,10 +519,10 @@ at-place-of c s p q i w at there = subst (λ (k : ℕ). IsAt c s k i w) (same p 
 -- ---- what is said
 
 pub speech-refl : {H : Type 0} (host : Ghosts H) (m : LoomMemory H) → IsSpeech host m m
-speech-refl {H} host m = record { parts = refl; ledger = refl; work = refl; writes = refl }
+speech-refl {H} host m = record { parts = refl; ledger = refl; due = refl; thinned = refl; work = refl; writes = refl }
 
 pub speech-trans : {H : Type 0} (host : Ghosts H) (a b c : LoomMemory H) → IsSpeech host a b → IsSpeech host b c → IsSpeech host a c
-speech-trans {H} host a b c x y = record { parts = y.parts ∙ x.parts; ledger = y.ledger ∙ x.ledger; work = y.work ∙ x.work; writes = y.writes ∙ x.writes }
+speech-trans {H} host a b c x y = record { parts = y.parts ∙ x.parts; ledger = y.ledger ∙ x.ledger; due = y.due ∙ x.due; thinned = y.thinned ∙ x.thinned; work = y.work ∙ x.work; writes = y.writes ∙ x.writes }
 
 pub speech-resident : {H : Type 0} (u v : LoomMemory H) (k : ℕ) → v.parts ≡ u.parts → is_resident v k ≡ is_resident u k
 unfolding is_resident

@@ -55,3 +55,4 @@ pub mod ReachLaws
 pub mod EndingLaws
 pub mod DeadLaws
 pub mod LivingLaws
+pub mod TimeLaws

@@ -1,5 +1,5 @@
 -- Accesses whose object was reached after dead objects went: each law is that of a quiet step, of the heap that is left, seen from before.
-use Rattle.std.proofs.Common.{◌≡◌, ℕ, List, true, false, Option, None, Some, is_some, length, Result, Ok, Err, IsTrue, refl, sym, ◌∙◌, ap, add-zero, arith}
+use Rattle.std.proofs.Common.{◌≡◌, inl, inr, ⊎_elim, ℕ, ◌≤◌, List, true, false, Option, None, Some, is_some, length, Result, Ok, Err, IsTrue, refl, sym, ◌∙◌, ap, add-zero, arith}
 use Rattle.std.specs.Prelude.{OnOk, IfErr}
 use Rattle.long_names.specs.declared.object.Body.{Body}
 use Rattle.long_names.specs.declared.object.Object.{Object}
@@ -17,7 +17,8 @@ use Rattle.object_memory.specs.Told.{is_root}
 use Rattle.object_table.specs.Entries.{place_of}
 use Rattle.leaf_lambda.specs.Parts.{core_of}
 use Rattle.loom_memory.specs.declared.memory.LoomMemory.{LoomMemory}
-use Rattle.loom_memory.specs.Freed.{IsFreed, IsFreedBy, IsFreedFor}
+use Rattle.loom_memory.specs.Freed.{IsAlive, IsDoneOfLiving, IsFreed, IsFreedBy, IsFreedFor, IsFreedShort, IsOnTime, StaysBy}
+use Rattle.loom_memory.specs.Thinned.{KeepsThinned}
 use Rattle.loom_memory.specs.Memory.{loom_told, word_in, IsSound}
 use Rattle.loom_memory.specs.Residents.{is_resident}
 use Rattle.loom_memory.proofs.FirstRoomLaws.{alive-quiet}
@@ -40,6 +41,7 @@ use Rattle.loom_memory.proofs.MarkingLaws.{mark-access}
 use Rattle.loom_memory.proofs.ReadLaws.{read-answered}
 use Rattle.loom_memory.proofs.SlotLaws.{pin-access}
 use Rattle.loom_memory.proofs.StoreLaws.{store-last}
+use Rattle.loom_memory.proofs.TimeLaws.{time-quiet}
 use Rattle.loom_memory.proofs.TextLaws.{all-said, failed-from, said-from, say-last}
 
 pub quiet-refl : (u : Told) → IsQuiet u u
@@ -106,23 +108,43 @@ amiss-freed t u w a of f target none silent thin ready err untold =
 -- ---- that it was done of what lives
 
 -- the object was reached, and the heap is as it was left then, but for what the access stores
-done-then : {H : Type 0} (host : Ghosts H) (m u v : LoomMemory H) (n : ℕ) (a : Access) → HasThinned (loom_told host m) (loom_told host u) → IsFreedFor host m u n → (IsTrue (host.tells Work) → (loom_told host v).heap ≡ heap_after (loom_told host u).heap (loom_told host u).regs a) → IsFreedBy host m v n a
+done-alive : {H : Type 0} (host : Ghosts H) (m u v : LoomMemory H) (a : Access) → HasThinned (loom_told host m) (loom_told host u) → (IsTrue (host.tells Work) → (loom_told host v).heap ≡ heap_after (loom_told host u).heap (loom_told host u).regs a) → IsTrue (host.tells Work) → IsAlive (loom_told host u) → IsDoneOfLiving (loom_told host m) (loom_told host v) a
 unfolding loom_told
-done-then {H} host m u v n a thin gone heap = λ told away lacks due. record {
+done-alive {H} host m u v a thin heap told alive = record {
   heap = (loom_told host u).heap;
   thinning = thin.thinning told;
-  alive = ap (λ (z : Told). kept (loom_told host u).heap (is_root z)) (sym thin.same) ∙ gone told away lacks due told;
+  alive = ap (λ (z : Told). kept (loom_told host u).heap (is_root z)) (sym thin.same) ∙ alive told;
   left = heap told ∙ ap (λ (z : Told). heap_after (loom_told host u).heap z.regs a) thin.same;
 }
 
-pub done-by : {T H : Type 0} (r : Result T MemFault) (host : Ghosts H) (m u v : LoomMemory H) (n : ℕ) (a : Access) → HasThinned (loom_told host m) (loom_told host u) → IsFreedFor host m u n → OnOk r (IsTrue (host.tells Work) → (loom_told host v).heap ≡ heap_after (loom_told host u).heap (loom_told host u).regs a) → OnOk r (IsFreedBy host m v n a)
-done-by {T} {H} (Ok x) host m u v n a thin gone heap = done-then host m u v n a thin gone heap
-done-by {T} {H} (Err f) host m u v n a thin gone heap = tt
+pub done-then : {H : Type 0} (host : Ghosts H) (m u v : LoomMemory H) (n : ℕ) (a : Access) → HasThinned (loom_told host m) (loom_told host u) → IsFreedFor host m u n → (IsTrue (host.tells Work) → (loom_told host v).heap ≡ heap_after (loom_told host u).heap (loom_told host u).regs a) → v.due ≡ u.due → StaysBy m v a → IsFreedBy host m v n a
+done-then {H} host m u v n a thin gone heap same stays = record {
+  gone = λ told away lacks due. done-alive host m u v a thin heap told (gone.gone told away lacks due);
+  due = λ told. ⊎_elim (λ (low : u.due ≤ m.due). inl (omega arith)) (λ (alive : IsAlive (loom_told host u)). inr (done-alive host m u v a thin heap told alive)) gone.due;
+  stays = stays;
+}
+
+pub done-by : {T H : Type 0} (r : Result T MemFault) (host : Ghosts H) (m u v : LoomMemory H) (n : ℕ) (a : Access) → HasThinned (loom_told host m) (loom_told host u) → IsFreedFor host m u n → OnOk r (IsTrue (host.tells Work) → (loom_told host v).heap ≡ heap_after (loom_told host u).heap (loom_told host u).regs a) → OnOk r (v.due ≡ u.due) → OnOk r (StaysBy m v a) → OnOk r (IsFreedBy host m v n a)
+done-by {T} {H} (Ok x) host m u v n a thin gone heap same stays = done-then host m u v n a thin gone heap same stays
+done-by {T} {H} (Err f) host m u v n a thin gone heap same stays = tt
 
 -- an object that is here didn't come in
-pub done-here : {T H : Type 0} (r : Result T MemFault) (host : Ghosts H) (m v : LoomMemory H) (n : ℕ) (a : Access) → IsTrue (is_resident m n) → OnOk r (IsFreedBy host m v n a)
-done-here {T} {H} (Ok x) host m v n a here = λ told away lacks due. absurd (let both : true ≡ false = sym here ∙ away in cc)
-done-here {T} {H} (Err f) host m v n a here = tt
+pub done-here : {T H : Type 0} (r : Result T MemFault) (host : Ghosts H) (m v : LoomMemory H) (n : ℕ) (a : Access) → IsTrue (is_resident m n) → v.due ≡ m.due → StaysBy m v a → OnOk r (IsFreedBy host m v n a)
+done-here {T} {H} (Ok x) host m v n a here same stays = record {
+  gone = λ told away lacks due. absurd (let both : true ≡ false = sym here ∙ away in cc);
+  due = λ told. inl (omega arith);
+  stays = stays;
+}
+done-here {T} {H} (Err f) host m v n a here same stays = tt
+
+-- entries were asked for
+pub done-short : {T H : Type 0} (r : Result T MemFault) (host : Ghosts H) (m u v : LoomMemory H) (a : Access) → HasThinned (loom_told host m) (loom_told host u) → IsFreed host m u 0 27 → OnOk r (IsTrue (host.tells Work) → (loom_told host v).heap ≡ heap_after (loom_told host u).heap (loom_told host u).regs a) → OnOk r (IsFreedShort host m v a)
+done-short {T} {H} (Ok x) host m u v a thin gone heap = λ told lacks due. done-alive host m u v a thin heap told (gone lacks due)
+done-short {T} {H} (Err f) host m u v a thin gone heap = tt
+
+pub short-off : {T : Type 0} (P Q : Type 0) (r : Result T MemFault) → OnOk r Q → OnOk r (P → Q)
+short-off {T} P Q (Ok x) q = λ p. q
+short-off {T} P Q (Err f) q = tt
 
 pub stored-heap : {H : Type 0} (r : Result (Unit {0}) MemFault) (host : Ghosts H) (u v : LoomMemory H) (a : Access) → OnOk r (IsStored (loom_told host u) (loom_told host v) a) → OnOk r (IsTrue (host.tells Work) → (loom_told host v).heap ≡ heap_after (loom_told host u).heap (loom_told host u).regs a)
 unfolding loom_told
@@ -138,14 +160,39 @@ said-heap {H} (Ok x) host u v of k said = λ told. ap (λ (z : Told). z.heap) (s
 said-heap {H} (Err f) host u v of k said = tt
 
 -- it was opened to be stored into
-pub freed-open : {H : Type 0} (host : Ghosts H) (m u v : LoomMemory H) (n : ℕ) → IsFreedFor host m u n → IsQuiet (loom_told host u) (loom_told host v) → IsFreedFor host m v n
-freed-open {H} host m u v n gone quiet = λ told away lacks due. alive-quiet (loom_told host u) (loom_told host v) quiet (gone told away lacks due)
+pub freed-open : {H : Type 0} (host : Ghosts H) (m u v : LoomMemory H) (n : ℕ) → IsFreedFor host m u n → IsQuiet (loom_told host u) (loom_told host v) → v.due ≡ u.due → v.thinned ≡ u.thinned → IsFreedFor host m v n
+freed-open {H} host m u v n gone quiet due thinned = record {
+  gone = λ told away lacks late. alive-quiet (loom_told host u) (loom_told host v) quiet (gone.gone told away lacks late);
+  due = time-quiet host m u v gone.due due quiet;
+  stays = λ on. thinned ∙ gone.stays on;
+}
+
+pub freed-here : {H : Type 0} (host : Ghosts H) (m : LoomMemory H) (n : ℕ) → IsTrue (is_resident m n) → IsFreedFor host m m n
+freed-here {H} host m n here = record {
+  gone = λ told away. absurd (let both : true ≡ false = sym here ∙ away in cc);
+  due = inl (omega arith);
+  stays = λ on. on;
+}
+
+pub freed-came : {T H : Type 0} (r : Result T MemFault) (host : Ghosts H) (m u : LoomMemory H) (of n : ℕ) → place_of ((core_of m.parts).entries (word_in m.regs of)).state ≡ None → OnOk r (IsTrue (host.tells Work) → place_of ((core_of m.parts).entries (word_in m.regs of)).state ≡ None → IsFreed host m u (words_at (loom_told host m).heap n) 27)
+    → OnOk r (IsOnTime host m u) → OnOk r (KeepsThinned m u) → OnOk r (IsFreedFor host m u n)
+freed-came {T} {H} (Ok x) host m u of n leaf gone due stays = record { gone = λ told away. gone told leaf; due = due; stays = stays }
+freed-came {T} {H} (Err f) host m u of n leaf gone due stays = tt
 
 -- as its entry has it
 pub freed-away : {H : Type 0} (host : Ghosts H) (m u : LoomMemory H) (of : ℕ) → IsSound host m → IsRef ((loom_told host m).regs of)
-    → (IsTrue (host.tells Work) → place_of ((core_of m.parts).entries (word_in m.regs of)).state ≡ None → IsFreed host m u (words_at (loom_told host m).heap (name_at ((loom_told host m).regs of))) 27) → IsFreedFor host m u (name_at ((loom_told host m).regs of))
-freed-away {H} host m u of sound ref gone = λ told away. gone told (go (place_of ((core_of m.parts).entries (word_in m.regs of)).state) refl (sym (resident-at host m of (word_in m.regs of) sound ref refl) ∙ away))
+    → (IsTrue (host.tells Work) → place_of ((core_of m.parts).entries (word_in m.regs of)).state ≡ None → IsFreed host m u (words_at (loom_told host m).heap (name_at ((loom_told host m).regs of))) 27) → IsOnTime host m u → KeepsThinned m u → IsFreedFor host m u (name_at ((loom_told host m).regs of))
+freed-away {H} host m u of sound ref gone due stays = record {
+  gone = λ told away. gone told (go (place_of ((core_of m.parts).entries (word_in m.regs of)).state) refl (sym (resident-at host m of (word_in m.regs of) sound ref refl) ∙ away));
+  due = due;
+  stays = stays;
+}
   where
     go : (x : Option ℕ) → place_of ((core_of m.parts).entries (word_in m.regs of)).state ≡ x → is_some (place_of ((core_of m.parts).entries (word_in m.regs of)).state) ≡ false → place_of ((core_of m.parts).entries (word_in m.regs of)).state ≡ None
     go None e off = e
     go (Some p) e off = absurd (let both : true ≡ false = sym (ap (λ (o : Option ℕ). is_some o) e) ∙ off in cc)
+
+-- of a field it is said elsewhere
+pub stored-stays : {T : Type 0} (r : Result T MemFault) → OnOk r (Unit {0})
+stored-stays {T} (Ok x) = tt
+stored-stays {T} (Err f) = tt

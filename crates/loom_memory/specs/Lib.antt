@@ -14,7 +14,7 @@ pub mod Own
 pub mod Gentle
 pub mod New
 pub mod Makings
+pub mod Thinned
 pub mod Freed
 pub mod Beginning
 pub mod Ending
-pub mod Thinned

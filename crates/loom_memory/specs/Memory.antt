@@ -144,7 +144,7 @@ pub record IsSound {H : Type 0} (host : Ghosts H) (m : LoomMemory H) : Type 0 wh
   pub kept : IsKept m.parts m.regs m.pinned m.ledger
   pub over : IsOver host m.disk.host.now m.disk.rest (core_of m.parts) m.ledger
   pub exact : IsExact host m.parts m.disk.host.now m.disk.rest m.ledger.next []
-  -- what is dead is looked for again after so many makings at most
+  -- From this name on, what is dead is looked for where room is short. It is at most so many names on, and each making takes every second one.
   pub soon : m.due ≤ m.ledger.next + m.ledger.entries / 8
   pub thin : IsThin host m
 

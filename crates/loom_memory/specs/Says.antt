@@ -49,5 +49,7 @@ pub record IsText {H : Type 0} (host : Ghosts H) (m : LoomMemory H) (of s : ℕ)
 pub record IsSpeech {H : Type 0} (host : Ghosts H) (old new : LoomMemory H) : Type 0 where
   pub parts : new.parts ≡ old.parts
   pub ledger : new.ledger ≡ old.ledger
+  pub due : new.due ≡ old.due
+  pub thinned : new.thinned ≡ old.thinned
   pub work : host.roles new.disk.host.now Work ≡ host.roles old.disk.host.now Work
   pub writes : host.writes new.disk.host.now ≡ host.writes old.disk.host.now

@@ -1,7 +1,10 @@
 -- A memory in which nothing is dead says so, until something may be.
-use Rattle.std.specs.Prelude.{◌≡◌, Bool, Some, Result, IsOk}
+use Rattle.std.specs.Prelude.{◌≡◌, ℕ, Bool, true, Some, Result, IsOk}
+use Rattle.object_table.specs.Entries.{is_short}
+use Rattle.leaf_lambda.specs.Parts.{core_of}
 use Rattle.object_memory.specs.declared.fault.MemFault.{MemFault}
 use Rattle.loom_memory.specs.declared.memory.LoomMemory.{LoomMemory}
+use Rattle.loom_memory.specs.Memory.{IsNamedIn}
 
 -- it says that nothing is dead
 unfoldable pub is_thinned : {H : Type 0} → LoomMemory H → Bool
@@ -12,3 +15,11 @@ is_thinned m = m.thinned
 pub record HasLasted {H : Type 0} (old new : LoomMemory H) (result : Result (Unit {0}) MemFault) : Type 0 where
   pub ok : IsOk result
   pub same : new ≡ (record old { ledger = record old.ledger { base = Some old.ledger.held; made = 0 } })
+
+-- It says so still.
+abbrev pub KeepsThinned : {H : Type 0} → LoomMemory H → LoomMemory H → Type 0
+KeepsThinned old new = old.thinned ≡ true → new.thinned ≡ true
+
+-- A word went: it says so still if the word is a number, or the core names what the word named, or that is known.
+abbrev pub StaysThinned : {H : Type 0} → LoomMemory H → LoomMemory H → ℕ → Type 0
+StaysThinned old new w = old.thinned ≡ true → (is_short w ≡ true → IsNamedIn (core_of new.parts) w) → new.thinned ≡ true

@@ -73,6 +73,7 @@ fn refresh(p: &Parts, k: &mut Ledger)
 impl<'h, H: Host> LoomMemory<'h, H> {
     ghost use Rattle.loom_memory.specs.Gentle.{IsResting, IsSteady, Remains};
     ghost use Rattle.loom_memory.specs.Damage.{IsDamaged};
+    ghost use Rattle.loom_memory.specs.Thinned.{StaysThinned};
     ghost use Rattle.loom_memory.specs.Freed.{IsFreedBy};
     ghost use Rattle.loom_memory.specs.Residents.{is_resident};
     ghost use Rattle.loom_memory.specs.Own.{BringsOne, HasPlace, IsBrought, IsSparingChange, MindsCache};
@@ -80,13 +81,15 @@ impl<'h, H: Host> LoomMemory<'h, H> {
     ghost use Rattle.long_names.specs.Access.{Mark, Nothing};
     ghost use Rattle.object_memory.specs.Contract.{Accessed, IsFound, IsPut, IsUnknown, MayDo, is_marked, with_mark};
     ghost use Rattle.object_memory.specs.Fit.{KeepsCallable, MayCall, StaysCallable};
-    ghost use Rattle.loom_memory.specs.Memory.{loom_told, loom_outside, loom_lender, IsMarking, IsRemembered, IsSound};
+    ghost use Rattle.loom_memory.specs.Memory.{loom_told, loom_outside, loom_lender, word_in, IsMarking, IsRemembered, IsSound};
 
     /// A new lookup path begins, and is whole.
     pub fn begin_path(&mut self)
         requires { IsSound H.Host self.old }
         ensures told { loom_told H.Host self.new ≡ record (loom_told H.Host self.old) { cache = record (loom_told H.Host self.old).cache { path = true } } }
         ensures resting { IsResting self.old self.new }
+        ensures due { self.new.due ≡ self.old.due }
+        ensures flag { self.new.thinned ≡ self.old.thinned }
         ensures fit { KeepsCallable (IsSound H.Host) (loom_told H.Host) loom_lender (loom_outside H.Host) self.old self.new }
     {
         refresh(&self.parts, &mut self.ledger);
@@ -102,6 +105,8 @@ impl<'h, H: Host> LoomMemory<'h, H> {
         ensures resting { IsResting self.old self.new }
         ensures none { Remains (core_of self.new.parts) (core_of self.old.parts) }
         ensures cached { (loom_told H.Host self.new).cache ≡ with_mark (loom_told H.Host self.old).cache (Some ((core_of self.old.parts).entries s.0).name) }
+        ensures due { self.new.due ≡ self.old.due }
+        ensures flag { self.new.thinned ≡ self.old.thinned }
         ensures lender { self.new.disk.host.ghost_name ≡ self.old.disk.host.ghost_name }
         ensures outside { loom_outside H.Host self.new ≡ loom_outside H.Host self.old }
     {
@@ -141,6 +146,8 @@ impl<'h, H: Host> LoomMemory<'h, H> {
         ensures found { MatchBool result (IsFound (loom_told H.Host self.old) (loom_told H.Host self.new) to class selector) (IsUnknown (loom_told H.Host self.old) (loom_told H.Host self.new) class selector) }
         ensures remembered { (method : ℕ) → IsRemembered self.old class selector method → (result ≡ true) × ((loom_told H.Host self.new).regs to ≡ (loom_told H.Host self.old).regs method) }
         ensures steady { IsSteady H.Host self.old self.new }
+        ensures due { self.new.due ≡ self.old.due }
+        ensures stays { StaysThinned self.old self.new (word_in self.old.regs to) }
         ensures fit { KeepsCallable (IsSound H.Host) (loom_told H.Host) loom_lender (loom_outside H.Host) self.old self.new }
     {
         if !names_marked(&self.parts, self.ledger.mark) {
@@ -168,6 +175,8 @@ impl<'h, H: Host> LoomMemory<'h, H> {
         ensures remembered { IsTrue result → IsRemembered self.new class selector method }
         ensures resting { IsResting self.old self.new }
         ensures others { IsTrue result → IsPutAlone (loom_told H.Host self.old).cache (loom_told H.Host self.new).cache ((loom_told H.Host self.old).regs class) ((loom_told H.Host self.old).regs selector) }
+        ensures due { self.new.due ≡ self.old.due }
+        ensures flag { self.new.thinned ≡ self.old.thinned }
         ensures fit { KeepsCallable (IsSound H.Host) (loom_told H.Host) loom_lender (loom_outside H.Host) self.old self.new }
     {
         if !self.ledger.begun {

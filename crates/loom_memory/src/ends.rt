@@ -84,6 +84,8 @@ impl<'h, H: Host> LoomMemory<'h, H> {
         ensures follows { Follows (loom_told H.Host self.old) (loom_told H.Host self.new) Thins }
         ensures peek { IsPeek H.Host self.old self.new }
         ensures resting { IsResting self.old self.new }
+        ensures due { self.new.due ≡ self.old.due }
+        ensures flag { self.new.thinned ≡ self.old.thinned }
         ensures fit { StaysCallable (IsSound H.Host) (loom_told H.Host) loom_lender (loom_outside H.Host) self.old self.new (Ok result) }
     {
         compact(&mut self.parts);

@@ -57,7 +57,8 @@ impl<'h, H: Host> LoomMemory<'h, H> {
     ghost use Rattle.loom_memory.specs.Known.{IsNameable};
     ghost use Rattle.loom_memory.specs.Below.{IsBelow};
     ghost use Rattle.loom_memory.specs.Damage.{IsDamageOf, IsDamaged};
-    ghost use Rattle.loom_memory.specs.Freed.{IsFreedBy};
+    ghost use Rattle.loom_memory.specs.Freed.{IsFreedBy, IsFreedShort};
+    ghost use Rattle.loom_memory.specs.Thinned.{StaysThinned};
     ghost use Rattle.loom_memory.specs.Memory.{loom_told, loom_outside, loom_lender, word_in, IsSound, IsQuiet, IsSilent, IsTaken, IsRefused};
 
     // The long word that a lambda means. A name is below the next one.
@@ -79,6 +80,8 @@ impl<'h, H: Host> LoomMemory<'h, H> {
         ensures err { IfErr result (λ f. (a : Access) → IsSilent a → makes a ≡ 0 → IsRefused (loom_told H.Host self.old) (loom_told H.Host self.new) a f) }
         ensures peek { OnOk result (IsPeek H.Host self.old self.new) }
         ensures brings { fetched self.new ≡ fetched self.old }
+        ensures due { OnOk result (self.new.due ≡ self.old.due) }
+        ensures flag { OnOk result (self.new.thinned ≡ self.old.thinned) }
         ensures lender { self.new.disk.host.ghost_name ≡ self.old.disk.host.ghost_name }
         ensures outside { loom_outside H.Host self.new ≡ loom_outside H.Host self.old }
     {
@@ -116,6 +119,8 @@ impl<'h, H: Host> LoomMemory<'h, H> {
         ensures means { meant (core_of self.new.parts).entries [] 0 result ≡ v.now }
         ensures ledger { self.new.ledger ≡ self.old.ledger }
         ensures steady { IsSteady H.Host self.old self.new }
+        ensures due { self.new.due ≡ self.old.due }
+        ensures flag { self.new.thinned ≡ self.old.thinned }
         ensures lender { self.new.disk.host.ghost_name ≡ self.old.disk.host.ghost_name }
         ensures outside { loom_outside H.Host self.new ≡ loom_outside H.Host self.old }
     {
@@ -157,6 +162,8 @@ impl<'h, H: Host> LoomMemory<'h, H> {
         ensures err { IfErr result (λ f. (a : Access) → IsSilent a → makes a ≡ 0 → IsRefused (loom_told H.Host self.old) (loom_told H.Host self.new) a f) }
         ensures peek { OnOk result (IsPeek H.Host self.old self.new) }
         ensures brings { fetched self.new ≡ fetched self.old }
+        ensures due { OnOk result (self.new.due ≡ self.old.due) }
+        ensures flag { OnOk result (self.new.thinned ≡ self.old.thinned) }
         ensures lender { self.new.disk.host.ghost_name ≡ self.old.disk.host.ghost_name }
         ensures outside { loom_outside H.Host self.new ≡ loom_outside H.Host self.old }
     {
@@ -182,6 +189,8 @@ impl<'h, H: Host> LoomMemory<'h, H> {
         ensures err { IfErr result (IsRefused (loom_told H.Host self.old) (loom_told H.Host self.new) (Field to of i)) }
         ensures peek { OnOk result (IsPeek H.Host self.old self.new) }
         ensures brings { fetched self.new ≡ fetched self.old }
+        ensures due { OnOk result (self.new.due ≡ self.old.due) }
+        ensures stays { OnOk result (StaysThinned self.old self.new (word_in self.old.regs to)) }
         ensures lender { self.new.disk.host.ghost_name ≡ self.old.disk.host.ghost_name }
         ensures outside { loom_outside H.Host self.new ≡ loom_outside H.Host self.old }
     {
@@ -208,6 +217,8 @@ impl<'h, H: Host> LoomMemory<'h, H> {
         ensures err { IfErr result (IsRefused (loom_told H.Host self.old) (loom_told H.Host self.new) (Field to of i)) }
         ensures peek { OnOk result (IsPeek H.Host self.old self.new) }
         ensures brings { fetched self.new ≡ fetched self.old }
+        ensures due { OnOk result (self.new.due ≡ self.old.due) }
+        ensures stays { OnOk result (StaysThinned self.old self.new (word_in self.old.regs to)) }
         ensures lender { self.new.disk.host.ghost_name ≡ self.old.disk.host.ghost_name }
         ensures outside { loom_outside H.Host self.new ≡ loom_outside H.Host self.old }
     {
@@ -234,6 +245,7 @@ impl<'h, H: Host> LoomMemory<'h, H> {
         ensures gone { OnOk result (IsFreedBy H.Host self.old self.new (name_at ((loom_told H.Host self.old).regs of)) (Field to of i)) }
         ensures damage { IsDamaged self.old self.new (name_at ((loom_told H.Host self.old).regs of)) result }
         ensures brings { BringsOne self.old self.new ((is_resident self.old (name_at ((loom_told H.Host self.old).regs of)) ≡ false) ⊎ (HasRoom self.old.parts 0 SPARE → ⊥)) }
+        ensures short { OnOk result (IsFreedShort H.Host self.old self.new (Field to of i)) }
         ensures fit { StaysCallable (IsSound H.Host) (loom_told H.Host) loom_lender (loom_outside H.Host) self.old self.new result }
     {
         match self.load_with_room(of) {
@@ -253,6 +265,7 @@ impl<'h, H: Host> LoomMemory<'h, H> {
         ensures gone { OnOk result (IsFreedBy H.Host self.old self.new (name_at ((loom_told H.Host self.old).regs of)) (Field to of i)) }
         ensures damage { IsDamaged self.old self.new (name_at ((loom_told H.Host self.old).regs of)) result }
         ensures brings { BringsOne self.old self.new ((is_resident self.old (name_at ((loom_told H.Host self.old).regs of)) ≡ false) ⊎ (HasRoom self.old.parts 0 SPARE → ⊥)) }
+        ensures short { OnOk result ((IsAtHand self.old (name_at ((loom_told H.Host self.old).regs of)) i → ⊥) → IsFreedShort H.Host self.old self.new (Field to of i)) }
         ensures fit { StaysCallable (IsSound H.Host) (loom_told H.Host) loom_lender (loom_outside H.Host) self.old self.new result }
     {
         match self.here(of) {

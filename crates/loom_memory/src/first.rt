@@ -17,7 +17,8 @@ impl<'h, H: Host> LoomMemory<'h, H> {
     ghost use Rattle.object_memory.specs.Contract.{KeepsSound, makes};
     ghost use Rattle.disk_objects.specs.Function.{disk_of};
     ghost use Rattle.purger.specs.Purge.{HasRoom, IsShort};
-    ghost use Rattle.loom_memory.specs.Freed.{IsFreed};
+    ghost use Rattle.loom_memory.specs.Freed.{IsFreed, IsOnTime};
+    ghost use Rattle.loom_memory.specs.Thinned.{KeepsThinned};
     ghost use Rattle.loom_memory.specs.Gentle.{IsGentle};
     ghost use Rattle.loom_memory.specs.Makings.{HasThinned};
     ghost use Rattle.loom_memory.specs.Own.{MindsCache};
@@ -47,6 +48,8 @@ impl<'h, H: Host> LoomMemory<'h, H> {
         ensures sure { IfErr result (λ f. HasRoom self.old.parts words SPARE → ⊥) }
         ensures err { IfErr result (λ f. (a : Access) (of : ℕ) → target_of a ≡ Some of → IsSilent a → makes a ≡ 0 → IsRefused (loom_told H.Host self.old) (loom_told H.Host self.new) a f) }
         ensures brings { fetched self.new ≡ fetched self.old }
+        ensures due { OnOk result (IsOnTime H.Host self.old self.new) }
+        ensures flag { OnOk result (KeepsThinned self.old self.new) }
         ensures lender { self.new.disk.host.ghost_name ≡ self.old.disk.host.ghost_name }
         ensures outside { loom_outside H.Host self.new ≡ loom_outside H.Host self.old }
     {

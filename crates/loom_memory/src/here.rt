@@ -59,6 +59,8 @@ impl<'h, H: Host> LoomMemory<'h, H> {
         ensures idle { words ≡ 0 → self.new ≡ self.old }
         ensures buf { self.new.buf ≡ self.old.buf }
         ensures brings { fetched self.new ≡ fetched self.old }
+        ensures due { self.new.due ≡ self.old.due }
+        ensures flag { self.new.thinned ≡ self.old.thinned }
         ensures lender { self.new.disk.host.ghost_name ≡ self.old.disk.host.ghost_name }
         ensures outside { loom_outside H.Host self.new ≡ loom_outside H.Host self.old }
     {
@@ -109,6 +111,8 @@ impl<'h, H: Host> LoomMemory<'h, H> {
         ensures tested { OnOk result (is_resident self.old (name_at ((loom_told H.Host self.old).regs of)) ≡ false → IsTested self.new (name_at ((loom_told H.Host self.old).regs of))) }
         ensures err { IfErr result (λ f. (a : Access) → target_of a ≡ Some of → makes a ≡ 0 → IsSilent a → IsLater (loom_told H.Host self.old) (loom_told H.Host self.new) × Refuses (loom_told H.Host self.old) (loom_told H.Host self.new) (Does a) f) }
         ensures brings { BringsOne self.old self.new (is_resident self.old (name_at ((loom_told H.Host self.old).regs of)) ≡ false) }
+        ensures regs { OnOk result (self.new.regs ≡ self.old.regs) }
+        ensures pins { OnOk result (self.new.pinned ≡ self.old.pinned) }
         ensures lender { self.new.disk.host.ghost_name ≡ self.old.disk.host.ghost_name }
         ensures outside { loom_outside H.Host self.new ≡ loom_outside H.Host self.old }
     {

@@ -24,13 +24,14 @@ impl<'h, H: Host> LoomMemory<'h, H> {
     ghost use Rattle.object_memory.specs.Told.{IsReady};
     ghost use Rattle.object_memory.specs.Contract.{Accessed, KeepsSound, LeavesAll, MayDo};
     ghost use Rattle.object_memory.specs.Fit.{MayCall, StaysCallable};
-    ghost use Rattle.loom_memory.specs.Memory.{loom_told, loom_outside, loom_lender, IsSound, IsQuiet};
+    ghost use Rattle.loom_memory.specs.Memory.{loom_told, loom_outside, loom_lender, word_in, IsSound, IsQuiet};
     ghost use Rattle.purger.specs.Purge.{HasRoom};
     ghost use Rattle.loom_memory.specs.Gentle.{IsSteady};
     ghost use Rattle.loom_memory.specs.Own.{BringsOne, IsSparing, MindsCache};
     ghost use Rattle.loom_memory.specs.Residents.{fetched, is_resident};
     ghost use Rattle.loom_memory.specs.Damage.{IsDamaged};
     ghost use Rattle.loom_memory.specs.Freed.{IsFreedBy};
+    ghost use Rattle.loom_memory.specs.Thinned.{StaysThinned};
     ghost use Rattle.loom_memory.specs.Known.{IsEntryOf, IsNameable, IsSpent, IsNeedBeside, IsRefusedOf, IsNaming};
 
     // The entry of a name that may get one, which it gets where one is free.
@@ -46,6 +47,9 @@ impl<'h, H: Host> LoomMemory<'h, H> {
         ensures pins { self.new.pinned ≡ self.old.pinned }
         ensures steady { IsSteady H.Host self.old self.new }
         ensures brings { fetched self.new ≡ fetched self.old }
+        ensures due { self.new.due ≡ self.old.due }
+        ensures flag { self.new.thinned ≡ self.old.thinned }
+        ensures regs { self.new.regs ≡ self.old.regs }
         ensures lender { self.new.disk.host.ghost_name ≡ self.old.disk.host.ghost_name }
         ensures outside { loom_outside H.Host self.new ≡ loom_outside H.Host self.old }
     {
@@ -111,6 +115,9 @@ impl<'h, H: Host> LoomMemory<'h, H> {
         ensures minds { OnOk result (MindsCache H.Host None self.old self.new (λ k. ⊥)) }
         ensures err { IfErr result (IsRefusedOf (loom_told H.Host self.old) (loom_told H.Host self.new) name) }
         ensures brings { fetched self.new ≡ fetched self.old }
+        ensures due { OnOk result (self.new.due ≡ self.old.due) }
+        ensures flag { OnOk result (self.new.thinned ≡ self.old.thinned) }
+        ensures regs { OnOk result (self.new.regs ≡ self.old.regs) }
         ensures lender { self.new.disk.host.ghost_name ≡ self.old.disk.host.ghost_name }
         ensures outside { loom_outside H.Host self.new ≡ loom_outside H.Host self.old }
     {
@@ -137,6 +144,9 @@ impl<'h, H: Host> LoomMemory<'h, H> {
         ensures steady { OnOk result (HasRoom self.old.parts 0 SPARE → IsSteady H.Host self.old self.new) }
         ensures unspent { OnOk result ((IsSpent (core_of self.old.parts) (spare_of self.old.parts) name → ⊥) → IsSteady H.Host self.old self.new) }
         ensures brings { fetched self.new ≡ fetched self.old }
+        ensures due { OnOk result (self.new.due ≡ self.old.due) }
+        ensures flag { OnOk result (self.new.thinned ≡ self.old.thinned) }
+        ensures regs { OnOk result (self.new.regs ≡ self.old.regs) }
         ensures lender { self.new.disk.host.ghost_name ≡ self.old.disk.host.ghost_name }
         ensures outside { loom_outside H.Host self.new ≡ loom_outside H.Host self.old }
     {
@@ -159,6 +169,8 @@ impl<'h, H: Host> LoomMemory<'h, H> {
         ensures steady { OnOk result (HasRoom self.old.parts 0 SPARE → IsSteady H.Host self.old self.new) }
         ensures unspent { OnOk result ((IsSpent (core_of self.old.parts) (spare_of self.old.parts) name → ⊥) → IsSteady H.Host self.old self.new) }
         ensures brings { fetched self.new ≡ fetched self.old }
+        ensures due { OnOk result (self.new.due ≡ self.old.due) }
+        ensures stays { OnOk result (StaysThinned self.old self.new (word_in self.old.regs to)) }
         ensures lender { self.new.disk.host.ghost_name ≡ self.old.disk.host.ghost_name }
         ensures outside { loom_outside H.Host self.new ≡ loom_outside H.Host self.old }
     {
@@ -182,6 +194,8 @@ impl<'h, H: Host> LoomMemory<'h, H> {
         ensures unspent { OnOk result ((IsSpent (core_of self.old.parts) (spare_of self.old.parts) name → ⊥) → IsSteady H.Host self.old self.new) }
         ensures minds { OnOk result (MindsCache H.Host None self.old self.new (λ k. ⊥)) }
         ensures brings { fetched self.new ≡ fetched self.old }
+        ensures due { OnOk result (self.new.due ≡ self.old.due) }
+        ensures stays { OnOk result (StaysThinned self.old self.new (word_in self.old.regs to)) }
         ensures fit { StaysCallable (IsSound H.Host) (loom_told H.Host) loom_lender (loom_outside H.Host) self.old self.new result }
     {
         self.put_name(to, name)
@@ -200,6 +214,7 @@ impl<'h, H: Host> LoomMemory<'h, H> {
         ensures steady { OnOk result (IsSome (int_of ((loom_told H.Host self.old).regs of)) → HasRoom self.old.parts 0 SPARE → IsSteady H.Host self.old self.new) }
         ensures minds { OnOk result (IsSome (int_of ((loom_told H.Host self.old).regs of)) → MindsCache H.Host None self.old self.new (λ k. ⊥)) }
         ensures brings { BringsOne self.old self.new (IsRef ((loom_told H.Host self.old).regs of) × (is_resident self.old (name_at ((loom_told H.Host self.old).regs of)) ≡ false)) }
+        ensures rests { OnOk result (IsSome (int_of ((loom_told H.Host self.old).regs of)) → (self.new.due ≡ self.old.due) × StaysThinned self.old self.new (word_in self.old.regs to)) }
         ensures fit { StaysCallable (IsSound H.Host) (loom_told H.Host) loom_lender (loom_outside H.Host) self.old self.new result }
     {
         let w = self.word_of(of);

@@ -20,6 +20,8 @@ impl<'h, H: Host> LoomMemory<'h, H> {
         ensures failed { IsTrue (H.tells role) → OnErr result (PutPrefix buf.now (loom_outside H.Host self.old role).role (loom_outside H.Host self.new role).role) }
         ensures cause { HasCause (loom_outside H.Host self.old role).faults (loom_outside H.Host self.new role).faults result }
         ensures others { SameBut role (loom_outside H.Host self.old) (loom_outside H.Host self.new) }
+        ensures due { self.new.due ≡ self.old.due }
+        ensures flag { self.new.thinned ≡ self.old.thinned }
         ensures lender { self.new.disk.host.ghost_name ≡ self.old.disk.host.ghost_name }
     {
         self.disk.write_to(role, buf)

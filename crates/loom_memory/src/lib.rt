@@ -7,7 +7,9 @@
 //! were made since the last settling, dead objects are freed before it is refused (`thin`, by `purger::drain`). `settle` frees them where
 //! there is no room for eight more, so that a making before the eighth frees nothing for the disk's sake (`specs/Numbers.antt`). Where the
 //! core is short, what is dead is freed before anything living leaves (`free_first`): by a making, by `settle`, and by an access that brings an
-//! object in (`clear_first`). So does `purge_all`. `specs/Freed.antt` says what is dead then: nothing, where that was looked for.
+//! object in (`clear_first`). So does `purge_all`. `specs/Freed.antt` says what is dead then: nothing, where that was looked for; and that the
+//! next search is put off only where nothing is dead (`IsOnTime`). A memory that says that nothing is dead says so until a word goes whose object
+//! the core names nowhere else (`specs/Thinned.antt`).
 //!
 //! `load` is the step that each access begins with. An object in the core is found with nothing done (`here`); for a leaf room is made
 //! beside the pinned objects, and it is brought in from its record, which is read once: each name in it is below the next one, or the answer

@@ -123,7 +123,8 @@ impl<'h, H: Host> LoomMemory<'h, H> {
     ghost use Rattle.object_memory.specs.Contract.{ForBounds};
     ghost use Rattle.loom_memory.specs.Residents.{is_resident, words_resident};
     ghost use Rattle.loom_memory.specs.Gentle.{IsGentle};
-    ghost use Rattle.loom_memory.specs.Freed.{IsFreed};
+    ghost use Rattle.loom_memory.specs.Freed.{IsFreed, IsOnTime};
+    ghost use Rattle.loom_memory.specs.Thinned.{KeepsThinned};
     ghost use Rattle.loom_memory.specs.Makings.{HasThinned};
     ghost use Rattle.loom_memory.specs.Below.{IsTested};
     ghost use Rattle.loom_memory.specs.Own.{BringsOne, IsBrought, MindsCache};
@@ -148,6 +149,9 @@ impl<'h, H: Host> LoomMemory<'h, H> {
         ensures next { self.new.ledger.next ≡ self.old.ledger.next }
         ensures gentle { IsGentle H.Host self.old self.new }
         ensures minds { MindsCache H.Host None self.old self.new (λ k. k ≡ ((core_of self.old.parts).entries s.0).name) }
+        ensures due { self.new.due ≡ self.old.due }
+        ensures flag { self.new.thinned ≡ self.old.thinned }
+        ensures pins { self.new.pinned ≡ self.old.pinned }
         ensures lender { self.new.disk.host.ghost_name ≡ self.old.disk.host.ghost_name }
         ensures outside { loom_outside H.Host self.new ≡ loom_outside H.Host self.old }
     {
@@ -176,6 +180,7 @@ impl<'h, H: Host> LoomMemory<'h, H> {
         ensures damage { IfErr result (IsDamageOf self.new.disk.rest name) }
         ensures err { IfErr result (λ f. (a : Access) → IsSilent a → makes a ≡ 0 → IsRefused (loom_told H.Host self.old) (loom_told H.Host self.new) a f) }
         ensures brings { fetched self.new ≡ fetched self.old }
+        ensures flag { OnOk result (self.new.thinned ≡ self.old.thinned) }
         ensures lender { self.new.disk.host.ghost_name ≡ self.old.disk.host.ghost_name }
         ensures outside { loom_outside H.Host self.new ≡ loom_outside H.Host self.old }
     {
@@ -217,6 +222,7 @@ impl<'h, H: Host> LoomMemory<'h, H> {
         ensures damage { IfErr result (IsDamageOf self.new.disk.rest ((core_of self.old.parts).entries s.0).name) }
         ensures err { IfErr result (λ f. (a : Access) → IsSilent a → makes a ≡ 0 → IsRefused (loom_told H.Host self.old) (loom_told H.Host self.new) a f) }
         ensures brings { fetched self.new ≡ fetched self.old }
+        ensures flag { OnOk result (self.new.thinned ≡ self.old.thinned) }
         ensures lender { self.new.disk.host.ghost_name ≡ self.old.disk.host.ghost_name }
         ensures outside { loom_outside H.Host self.new ≡ loom_outside H.Host self.old }
     {
@@ -244,6 +250,8 @@ impl<'h, H: Host> LoomMemory<'h, H> {
         ensures sure { IfErr result (λ f. HasRoom self.old.parts words SPARE → ⊥) }
         ensures err { IfErr result (λ f. (a : Access) → IsSilent a → makes a ≡ 0 → IsRefused (loom_told H.Host self.old) (loom_told H.Host self.new) a f) }
         ensures brings { fetched self.new ≡ fetched self.old }
+        ensures due { OnOk result (self.new.due ≡ self.old.due) }
+        ensures flag { OnOk result (self.new.thinned ≡ self.old.thinned) }
         ensures lender { self.new.disk.host.ghost_name ≡ self.old.disk.host.ghost_name }
         ensures outside { loom_outside H.Host self.new ≡ loom_outside H.Host self.old }
     {
@@ -355,6 +363,9 @@ impl<'h, H: Host> LoomMemory<'h, H> {
         ensures minds { OnOk result (MindsCache H.Host None self.old self.new (λ k. k ≡ ((core_of self.old.parts).entries s.0).name)) }
         ensures err { IfErr result (IsRefusedAt (loom_told H.Host self.old) (loom_told H.Host self.new) ((core_of self.old.parts).entries s.0).name) }
         ensures away { OnErr result (fetched self.new ≡ fetched self.old) }
+        ensures due { OnOk result (IsOnTime H.Host self.old self.new) }
+        ensures flag { OnOk result (KeepsThinned self.old self.new) }
+        ensures pins { OnOk result (self.new.pinned ≡ self.old.pinned) }
         ensures lender { self.new.disk.host.ghost_name ≡ self.old.disk.host.ghost_name }
         ensures outside { loom_outside H.Host self.new ≡ loom_outside H.Host self.old }
     {
@@ -396,6 +407,9 @@ impl<'h, H: Host> LoomMemory<'h, H> {
         ensures minds { OnOk result (MindsCache H.Host None self.old self.new (IsBrought self.old self.new ((core_of self.old.parts).entries s.0).name)) }
         ensures err { IfErr result (IsRefusedAt (loom_told H.Host self.old) (loom_told H.Host self.new) ((core_of self.old.parts).entries s.0).name) }
         ensures brings { BringsOne self.old self.new (place_of ((core_of self.old.parts).entries s.0).state ≡ None) }
+        ensures due { OnOk result (IsOnTime H.Host self.old self.new) }
+        ensures flag { OnOk result (KeepsThinned self.old self.new) }
+        ensures pins { OnOk result (self.new.pinned ≡ self.old.pinned) }
         ensures lender { self.new.disk.host.ghost_name ≡ self.old.disk.host.ghost_name }
         ensures outside { loom_outside H.Host self.new ≡ loom_outside H.Host self.old }
     {
@@ -430,6 +444,11 @@ impl<'h, H: Host> LoomMemory<'h, H> {
         ensures minds { OnOk result (MindsCache H.Host None self.old self.new (IsBrought self.old self.new (name_at ((loom_told H.Host self.old).regs of)))) }
         ensures err { IfErr result (λ f. (a : Access) → target_of a ≡ Some of → makes a ≡ 0 → IsSilent a → IsLater (loom_told H.Host self.old) (loom_told H.Host self.new) × Refuses (loom_told H.Host self.old) (loom_told H.Host self.new) (Does a) f) }
         ensures brings { BringsOne self.old self.new ((is_resident self.old (name_at ((loom_told H.Host self.old).regs of)) ≡ false) ⊎ (HasRoom self.old.parts 0 SPARE → ⊥)) }
+        ensures due { OnOk result (IsOnTime H.Host self.old self.new) }
+        ensures flag { OnOk result (KeepsThinned self.old self.new) }
+        ensures entries { OnOk result (IsFreed H.Host self.old self.new 0 SPARE) }
+        ensures regs { OnOk result (self.new.regs ≡ self.old.regs) }
+        ensures pins { OnOk result (self.new.pinned ≡ self.old.pinned) }
         ensures lender { self.new.disk.host.ghost_name ≡ self.old.disk.host.ghost_name }
         ensures outside { loom_outside H.Host self.new ≡ loom_outside H.Host self.old }
     {

@@ -99,6 +99,7 @@ impl<'h, H: Host> LoomMemory<'h, H> {
         ensures err { IfErr result (IsRefusedMaking (loom_told H.Host self.old) (loom_told H.Host self.new)) }
         ensures other { IfErr result IsNotFull }
         ensures fault { IfErr result IsLost }
+        ensures due { OnOk result (self.new.due ≡ self.old.due) }
         ensures lender { self.new.disk.host.ghost_name ≡ self.old.disk.host.ghost_name }
         ensures outside { loom_outside H.Host self.new ≡ loom_outside H.Host self.old }
     {
@@ -146,6 +147,7 @@ impl<'h, H: Host> LoomMemory<'h, H> {
         ensures none { IfNone result (IsTrue (H.tells Role.Work) → ⊥) }
         ensures disk { self.new.disk ≡ self.old.disk }
         ensures ledger { IfNone result (self.new.ledger ≡ self.old.ledger) }
+        ensures due { self.new.due ≡ self.old.due }
     {
         let s = Short(self.word_of(class));
         match make_object(&mut self.parts, name, s, kind, len, header) {
@@ -190,6 +192,7 @@ impl<'h, H: Host> LoomMemory<'h, H> {
         ensures err { IfErr result (IsRefusedMaking (loom_told H.Host self.old) (loom_told H.Host self.new)) }
         ensures other { IfErr result IsNotFull }
         ensures fault { IfErr result IsLost }
+        ensures due { OnOk result (self.new.due ≡ self.old.due) }
         ensures lender { self.new.disk.host.ghost_name ≡ self.old.disk.host.ghost_name }
         ensures outside { loom_outside H.Host self.new ≡ loom_outside H.Host self.old }
     {
@@ -236,6 +239,7 @@ impl<'h, H: Host> LoomMemory<'h, H> {
         ensures err { IfErr result (IsRefusedAs (loom_told H.Host self.old) (loom_told H.Host self.new) to class (making_of kind len header)) }
         ensures other { IfErr result IsNotFull }
         ensures full { IfErr result (λ f. OnCoreFull f (self.new.ledger.held < disk_room self.new.disk.rest)) }
+        ensures due { OnOk result (self.new.due ≡ self.old.due) }
         ensures lender { self.new.disk.host.ghost_name ≡ self.old.disk.host.ghost_name }
         ensures outside { loom_outside H.Host self.new ≡ loom_outside H.Host self.old }
     {
@@ -272,7 +276,7 @@ impl<'h, H: Host> LoomMemory<'h, H> {
     ghost use Rattle.object_memory.specs.Contract.{Accessed, IfBounds, KeepsSound, MayDo};
     ghost use Rattle.object_memory.specs.Fit.{MayCall, StaysCallable};
     ghost use Rattle.loom_memory.specs.Memory.{loom_told, loom_outside, loom_lender, IsSound};
-    ghost use Rattle.loom_memory.specs.Freed.{IsFreed};
+    ghost use Rattle.loom_memory.specs.Freed.{IsAlive, IsFreed, IsFreedMaking, IsOnTime};
     ghost use Rattle.loom_memory.specs.Makings.{HasThinned, IfNameless, IsNameless, IsRefusedMaking, OnCoreFull};
     ghost use Rattle.loom_memory.specs.Gentle.{IsSpared};
     ghost use Rattle.loom_memory.specs.Own.{HasAllFor, HasSpaceFor, IsAskedLast, IsSparingMaking, IsUndrained, MindsCache};
@@ -337,6 +341,7 @@ impl<'h, H: Host> LoomMemory<'h, H> {
         ensures room { OnOk result ((words : ℕ) → HasRoom self.old.parts words SPARE → HasRoom self.new.parts words SPARE) }
         ensures err { IfErr result (IsRefusedMaking (loom_told H.Host self.old) (loom_told H.Host self.new)) }
         ensures full { IfErr result (λ f. OnCoreFull f ⊥) }
+        ensures alive { OnOk result (IsAlive (loom_told H.Host self.new)) }
         ensures lender { self.new.disk.host.ghost_name ≡ self.old.disk.host.ghost_name }
         ensures outside { loom_outside H.Host self.new ≡ loom_outside H.Host self.old }
     {
@@ -369,6 +374,7 @@ impl<'h, H: Host> LoomMemory<'h, H> {
         ensures full { IfErr result (λ f. OnCoreFull f ⊥) }
         ensures spared { IfErr result (λ f. IsUndrained self.old → IsSpared H.Host self.old self.new) }
         ensures sure { IfErr result (λ f. self.old.ledger.held < disk_room self.old.disk.rest → ⊥) }
+        ensures alive { OnOk result (disk_room self.old.disk.rest ≤ self.old.ledger.held → IsAlive (loom_told H.Host self.new)) }
         ensures lender { self.new.disk.host.ghost_name ≡ self.old.disk.host.ghost_name }
         ensures outside { loom_outside H.Host self.new ≡ loom_outside H.Host self.old }
     {
@@ -393,7 +399,8 @@ impl<'h, H: Host> LoomMemory<'h, H> {
         ensures minds { OnOk result (IsTrue (H.tells Role.Work) → MindsCache H.Host None self.old self.new (λ k. ⊥)) }
         ensures roomy { OnOk result (self.old.ledger.held < disk_room self.old.disk.rest → HasRoom self.old.parts words SPARE → self.new ≡ self.old) }
         ensures early { OnOk result (self.old.ledger.made < MAKINGS → HasRoom self.old.parts words SPARE → self.new ≡ self.old) }
-        ensures gone { OnOk result (self.old.ledger.held < disk_room self.old.disk.rest → IsFreed H.Host self.old self.new words SPARE) }
+        ensures gone { OnOk result (IsFreed H.Host self.old self.new words SPARE) }
+        ensures due { OnOk result (IsOnTime H.Host self.old self.new) }
         ensures bodies { OnOk result (IsTrue (H.tells Role.Work) → KeepsHeld (core_of self.old.parts) (core_of self.new.parts) (loom_told H.Host self.new).heap) }
         ensures room { OnOk result ((words : ℕ) → HasRoom self.old.parts words SPARE → HasRoom self.new.parts words SPARE) }
         ensures err { IfErr result (IsRefusedMaking (loom_told H.Host self.old) (loom_told H.Host self.new)) }
@@ -437,6 +444,7 @@ impl<'h, H: Host> LoomMemory<'h, H> {
         ensures full { IfErr result (λ f. OnCoreFull f (IsAskedLast H.Host self.old self.new)) }
         ensures spared { IfErr result (λ f. HasSpaceFor self.old (making_of kind len header) → IsSpared H.Host self.old self.new) }
         ensures sure { IfErr result (λ f. HasAllFor H.Host self.old (making_of kind len header) → ⊥) }
+        ensures gone { OnOk result (IsFreedMaking H.Host self.old self.new to class (making_of kind len header)) }
         ensures fit { StaysCallable (IsSound H.Host) (loom_told H.Host) loom_lender (loom_outside H.Host) self.old self.new result }
     {
         match self.ask(words_new(kind, len, header)) {
@@ -485,6 +493,7 @@ impl<'h, H: Host> LoomMemory<'h, H> {
         ensures full { IfErr result (λ f. OnCoreFull f (IsAskedLast H.Host self.old self.new)) }
         ensures spared { IfErr result (λ f. HasSpaceFor self.old (making_of kind len header) → IsSpared H.Host self.old self.new) }
         ensures sure { IfErr result (λ f. HasAllFor H.Host self.old (making_of kind len header) → ⊥) }
+        ensures gone { OnOk result (IsFreedMaking H.Host self.old self.new to class (making_of kind len header)) }
         ensures fit { StaysCallable (IsSound H.Host) (loom_told H.Host) loom_lender (loom_outside H.Host) self.old self.new result }
     {
         let next = self.ledger.next;
@@ -517,6 +526,7 @@ impl<'h, H: Host> LoomMemory<'h, H> {
         ensures full { IfErr result (λ f. OnCoreFull f (IsAskedLast H.Host self.old self.new)) }
         ensures spared { IfErr result (λ f. HasSpaceFor self.old (OfPointers n) → IsSpared H.Host self.old self.new) }
         ensures sure { IfErr result (λ f. HasAllFor H.Host self.old (OfPointers n) → ⊥) }
+        ensures gone { OnOk result (IsFreedMaking H.Host self.old self.new to class (OfPointers n)) }
         ensures fit { StaysCallable (IsSound H.Host) (loom_told H.Host) loom_lender (loom_outside H.Host) self.old self.new result }
     {
         self.make_kind(to, class, Kind::Pointers, n, 1)
@@ -538,6 +548,7 @@ impl<'h, H: Host> LoomMemory<'h, H> {
         ensures full { IfErr result (λ f. OnCoreFull f (IsAskedLast H.Host self.old self.new)) }
         ensures spared { IfErr result (λ f. HasSpaceFor self.old (OfWords n) → IsSpared H.Host self.old self.new) }
         ensures sure { IfErr result (λ f. HasAllFor H.Host self.old (OfWords n) → ⊥) }
+        ensures gone { OnOk result (IsFreedMaking H.Host self.old self.new to class (OfWords n)) }
         ensures fit { StaysCallable (IsSound H.Host) (loom_told H.Host) loom_lender (loom_outside H.Host) self.old self.new result }
     {
         self.make_kind(to, class, Kind::Words, n, 1)
@@ -559,6 +570,7 @@ impl<'h, H: Host> LoomMemory<'h, H> {
         ensures full { IfErr result (λ f. OnCoreFull f (IsAskedLast H.Host self.old self.new)) }
         ensures spared { IfErr result (λ f. HasSpaceFor self.old (OfBytes n) → IsSpared H.Host self.old self.new) }
         ensures sure { IfErr result (λ f. HasAllFor H.Host self.old (OfBytes n) → ⊥) }
+        ensures gone { OnOk result (IsFreedMaking H.Host self.old self.new to class (OfBytes n)) }
         ensures fit { StaysCallable (IsSound H.Host) (loom_told H.Host) loom_lender (loom_outside H.Host) self.old self.new result }
     {
         self.make_kind(to, class, Kind::Bytes, n, 1)
@@ -586,6 +598,7 @@ impl<'h, H: Host> LoomMemory<'h, H> {
         ensures full { IfErr result (λ f. OnCoreFull f (IsAskedLast H.Host self.old self.new)) }
         ensures spared { IfErr result (λ f. HasSpaceFor self.old (OfMethod header code) → IsSpared H.Host self.old self.new) }
         ensures sure { IfErr result (λ f. HasAllFor H.Host self.old (OfMethod header code) → ⊥) }
+        ensures gone { OnOk result (IsFreedMaking H.Host self.old self.new to class (OfMethod header code)) }
         ensures fit { StaysCallable (IsSound H.Host) (loom_told H.Host) loom_lender (loom_outside H.Host) self.old self.new result }
     {
         self.make_kind(to, class, Kind::Method, code, short_int(header))

@@ -41,8 +41,9 @@ pub struct LoomMemory<'h, H: Host> {
 }
 
 impl<'h, H: Host> LoomMemory<'h, H> {
-    ghost use Rattle.loom_memory.specs.Memory.{loom_told, loom_outside, IsSound};
+    ghost use Rattle.loom_memory.specs.Memory.{loom_told, loom_outside, word_in, IsSound};
     ghost use Rattle.loom_memory.specs.Gentle.{IsSteady};
+    ghost use Rattle.loom_memory.specs.Thinned.{StaysThinned};
 
     // Puts a word that is no lambda into a register.
     #[inline(always)]
@@ -54,6 +55,8 @@ impl<'h, H: Host> LoomMemory<'h, H> {
         ensures sound { IsSound H.Host self.new }
         ensures disk { self.new.disk.rest ≡ self.old.disk.rest }
         ensures steady { IsSteady H.Host self.old self.new }
+        ensures due { self.new.due ≡ self.old.due }
+        ensures stays { StaysThinned self.old self.new (word_in self.old.regs to) }
         ensures lender { self.new.disk.host.ghost_name ≡ self.old.disk.host.ghost_name }
         ensures outside { loom_outside H.Host self.new ≡ loom_outside H.Host self.old }
     {
@@ -101,6 +104,8 @@ impl<'h, H: Host> LoomMemory<'h, H> {
         ensures work { IsWorkOnly H.Host self.old.disk.host.now self.new.disk.host.now }
         ensures limit { disk_room self.new.disk.rest ≡ disk_room self.old.disk.rest }
         ensures brings { fetched self.new ≡ fetched self.old }
+        ensures due { self.new.due ≡ self.old.due }
+        ensures flag { self.new.thinned ≡ self.old.thinned }
         ensures lender { self.new.disk.host.ghost_name ≡ self.old.disk.host.ghost_name }
         ensures outside { loom_outside H.Host self.new ≡ loom_outside H.Host self.old }
     {
@@ -129,6 +134,8 @@ impl<'h, H: Host> LoomMemory<'h, H> {
         ensures buf { self.new.buf ≡ self.old.buf }
         ensures rest { self.new.disk.rest ≡ self.old.disk.rest }
         ensures brings { fetched self.new ≡ fetched self.old }
+        ensures due { self.new.due ≡ self.old.due }
+        ensures flag { self.new.thinned ≡ self.old.thinned }
         ensures lender { self.new.disk.host.ghost_name ≡ self.old.disk.host.ghost_name }
         ensures outside { loom_outside H.Host self.new ≡ loom_outside H.Host self.old }
     {

@@ -22,6 +22,7 @@ impl<'h, H: Host> LoomMemory<'h, H> {
     ghost use Rattle.object_memory.specs.Fit.{KeepsCallable};
     ghost use Rattle.loom_memory.specs.Memory.{loom_told, loom_outside, loom_lender, word_in, IsSound};
     ghost use Rattle.loom_memory.specs.Gentle.{IsSteady};
+    ghost use Rattle.loom_memory.specs.Thinned.{StaysThinned};
 
     // The word of a register: a number, or the short word of an entry.
     #[inline(always)]
@@ -59,6 +60,9 @@ impl<'h, H: Host> LoomMemory<'h, H> {
         ensures means { meant (core_of self.new.parts).entries [] 0 w ≡ meant (core_of self.old.parts).entries [] 0 w }
         ensures disk { self.new.disk ≡ self.old.disk }
         ensures steady { IsSteady H.Host self.old self.new }
+        ensures due { self.new.due ≡ self.old.due }
+        ensures flag { self.new.thinned ≡ self.old.thinned }
+        ensures regs { self.new.regs ≡ self.old.regs }
         ensures outside { loom_outside H.Host self.new ≡ loom_outside H.Host self.old }
     {
         touch(&mut self.parts, w);
@@ -74,6 +78,8 @@ impl<'h, H: Host> LoomMemory<'h, H> {
         ensures sound { IsSound H.Host self.new }
         ensures disk { self.new.disk.rest ≡ self.old.disk.rest }
         ensures steady { IsSteady H.Host self.old self.new }
+        ensures due { self.new.due ≡ self.old.due }
+        ensures stays { StaysThinned self.old self.new (word_in self.old.regs to) }
         ensures lender { self.new.disk.host.ghost_name ≡ self.old.disk.host.ghost_name }
         ensures outside { loom_outside H.Host self.new ≡ loom_outside H.Host self.old }
     {
@@ -89,6 +95,8 @@ impl<'h, H: Host> LoomMemory<'h, H> {
         ensures told { loom_told H.Host self.new ≡ record (loom_told H.Host self.old) { regs = set_register (loom_told H.Host self.old).regs to (meant (core_of self.old.parts).entries [] 0 1) } }
         ensures sound { IsSound H.Host self.new }
         ensures steady { IsSteady H.Host self.old self.new }
+        ensures due { self.new.due ≡ self.old.due }
+        ensures stays { StaysThinned self.old self.new (word_in self.old.regs to) }
         ensures lender { self.new.disk.host.ghost_name ≡ self.old.disk.host.ghost_name }
         ensures outside { loom_outside H.Host self.new ≡ loom_outside H.Host self.old }
     {
@@ -103,6 +111,8 @@ impl<'h, H: Host> LoomMemory<'h, H> {
         ensures told { loom_told H.Host self.new ≡ record (loom_told H.Host self.old) { regs = set_register (loom_told H.Host self.old).regs to (meant (core_of self.old.parts).entries [] 0 w) } }
         ensures sound { IsSound H.Host self.new }
         ensures steady { IsSteady H.Host self.old self.new }
+        ensures due { self.new.due ≡ self.old.due }
+        ensures stays { StaysThinned self.old self.new (word_in self.old.regs to) }
         ensures lender { self.new.disk.host.ghost_name ≡ self.old.disk.host.ghost_name }
         ensures outside { loom_outside H.Host self.new ≡ loom_outside H.Host self.old }
     {
@@ -120,6 +130,8 @@ impl<'h, H: Host> LoomMemory<'h, H> {
         requires range { IsSmallInteger v }
         ensures told { loom_told H.Host self.new ≡ record (loom_told H.Host self.old) { regs = set_register (loom_told H.Host self.old).regs to (Int v) } }
         ensures steady { IsSteady H.Host self.old self.new }
+        ensures due { self.new.due ≡ self.old.due }
+        ensures stays { StaysThinned self.old self.new (word_in self.old.regs to) }
         ensures fit { KeepsCallable (IsSound H.Host) (loom_told H.Host) loom_lender (loom_outside H.Host) self.old self.new }
     {
         let w = short_int(v);
@@ -135,6 +147,8 @@ impl<'h, H: Host> LoomMemory<'h, H> {
         requires { IsSound H.Host self.old }
         ensures told { loom_told H.Host self.new ≡ record (loom_told H.Host self.old) { regs = set_register (loom_told H.Host self.old).regs to ((loom_told H.Host self.old).regs from) } }
         ensures steady { IsSteady H.Host self.old self.new }
+        ensures due { self.new.due ≡ self.old.due }
+        ensures stays { StaysThinned self.old self.new (word_in self.old.regs to) }
         ensures fit { KeepsCallable (IsSound H.Host) (loom_told H.Host) loom_lender (loom_outside H.Host) self.old self.new }
     {
         let w = self.word_of(from);

@@ -63,7 +63,7 @@ impl<'h, H: Host> LoomMemory<'h, H> {
     ghost use Rattle.std.specs.Prelude.{Err};
     ghost use Rattle.object_memory.specs.Contract.{Called, KeepsSound, Settles, Thins, makes};
     ghost use Rattle.long_names.specs.Access.{Access};
-    ghost use Rattle.loom_memory.specs.Freed.{IsFreed};
+    ghost use Rattle.loom_memory.specs.Freed.{IsAlive, IsFreed, IsOnTime};
     ghost use Rattle.object_memory.specs.Fit.{MayCall, StaysCallable};
     ghost use Rattle.purger.specs.Draining.{KeepsHeld};
     ghost use Rattle.purger.specs.Purge.{HasRoom};
@@ -71,7 +71,7 @@ impl<'h, H: Host> LoomMemory<'h, H> {
     ghost use Rattle.loom_memory.specs.Numbers.{IsNumbered};
     ghost use Rattle.loom_memory.specs.Own.{HasRested, IsIdle, KeepsCache, MindsCache};
     ghost use Rattle.loom_memory.specs.Residents.{fetched, is_resident};
-    ghost use Rattle.loom_memory.specs.Thinned.{is_thinned, HasLasted};
+    ghost use Rattle.loom_memory.specs.Thinned.{is_thinned, HasLasted, KeepsThinned};
     ghost use Rattle.loom_memory.specs.Makings.{HasBegun, HasKept, HasSettled, HasThinned, IsLost, IsRefusedCall, IsRefusedMaking};
 
     // How many objects are held, if they are no more than before.
@@ -146,8 +146,8 @@ impl<'h, H: Host> LoomMemory<'h, H> {
         }
     }
 
-    // What is dead goes before anything living: dead objects are freed where so many words and entries aren't free, unless few were found a
-    // short while ago.
+    // What is dead goes before anything living: dead objects are freed where so many words and entries aren't free, unless nothing can be dead, or
+    // few were found a short while ago.
     pub(crate) fn free_first(&mut self, words: u32, entries: u16) -> Result<(), MemFault>
         requires sound { IsSound H.Host self.old }
         requires ready { IsReady (loom_told H.Host self.old) }
@@ -172,10 +172,16 @@ impl<'h, H: Host> LoomMemory<'h, H> {
         ensures making { IfErr result (IsRefusedMaking (loom_told H.Host self.old) (loom_told H.Host self.new)) }
         ensures settling { IfErr result (IsRefusedCall (loom_told H.Host self.old) (loom_told H.Host self.new) Settles) }
         ensures fault { IfErr result IsLost }
+        ensures due { OnOk result (IsOnTime H.Host self.old self.new) }
+        ensures lasts { self.old.thinned ≡ true → self.new ≡ self.old }
+        ensures still { OnOk result (IsAlive (loom_told H.Host self.old) → IsAlive (loom_told H.Host self.new)) }
         ensures lender { self.new.disk.host.ghost_name ≡ self.old.disk.host.ghost_name }
         ensures outside { loom_outside H.Host self.new ≡ loom_outside H.Host self.old }
     {
         if has_room(&self.parts, words, entries) {
+            return Ok(());
+        }
+        if self.thinned {
             return Ok(());
         }
         if self.ledger.next < self.due {
@@ -216,6 +222,8 @@ impl<'h, H: Host> LoomMemory<'h, H> {
         ensures rests { SETTLED ≤ spare_of self.old.parts → HasRested self.old self.new result }
         ensures sound { KeepsSound result (IsSound H.Host self.new) }
         ensures err { IfErr result (IsRefusedCall (loom_told H.Host self.old) (loom_told H.Host self.new) Settles) }
+        ensures due { OnOk result (IsOnTime H.Host self.old self.new) }
+        ensures flag { OnOk result (KeepsThinned self.old self.new) }
         ensures lender { self.new.disk.host.ghost_name ≡ self.old.disk.host.ghost_name }
         ensures outside { loom_outside H.Host self.new ≡ loom_outside H.Host self.old }
     {
@@ -246,6 +254,8 @@ impl<'h, H: Host> LoomMemory<'h, H> {
         ensures rests { self.old.ledger.held + MAKINGS ≤ disk_room self.old.disk.rest → SETTLED ≤ spare_of self.old.parts → HasRested self.old self.new result }
         ensures sound { KeepsSound result (IsSound H.Host self.new) }
         ensures err { IfErr result (IsRefusedCall (loom_told H.Host self.old) (loom_told H.Host self.new) Settles) }
+        ensures due { OnOk result (IsOnTime H.Host self.old self.new) }
+        ensures flag { OnOk result (KeepsThinned self.old self.new) }
         ensures lender { self.new.disk.host.ghost_name ≡ self.old.disk.host.ghost_name }
         ensures outside { loom_outside H.Host self.new ≡ loom_outside H.Host self.old }
     {
@@ -278,6 +288,8 @@ impl<'h, H: Host> LoomMemory<'h, H> {
         ensures sound { KeepsSound result (IsSound H.Host self.new) }
         ensures err { IfErr result (IsRefusedCall (loom_told H.Host self.old) (loom_told H.Host self.new) Settles) }
         ensures fault { IfErr result IsLost }
+        ensures due { OnOk result (self.new.due ≡ self.old.due) }
+        ensures flag { OnOk result (self.new.thinned ≡ self.old.thinned) }
         ensures lender { self.new.disk.host.ghost_name ≡ self.old.disk.host.ghost_name }
         ensures outside { loom_outside H.Host self.new ≡ loom_outside H.Host self.old }
     {
@@ -324,6 +336,8 @@ impl<'h, H: Host> LoomMemory<'h, H> {
         ensures whole { self.old.ledger.held + MAKINGS ≤ disk_room self.old.disk.rest → SETTLED ≤ spare_of self.old.parts → OnOk result ((loom_told H.Host self.new).heap ≡ (loom_told H.Host self.old).heap) }
         ensures gone { self.old.ledger.held + MAKINGS ≤ disk_room self.old.disk.rest → OnOk result (IsFreed H.Host self.old self.new 0 SETTLED) }
         ensures minds { OnOk result (IsTrue (H.tells Role.Work) → MindsCache H.Host None self.old self.new (λ k. ⊥)) }
+        ensures due { OnOk result (IsOnTime H.Host self.old self.new) }
+        ensures flag { OnOk result (KeepsThinned self.old self.new) }
         ensures fit { StaysCallable (IsSound H.Host) (loom_told H.Host) loom_lender (loom_outside H.Host) self.old self.new result }
     {
         match self.settle_disk() {
@@ -356,6 +370,8 @@ impl<'h, H: Host> LoomMemory<'h, H> {
         ensures gone { self.old.ledger.held + MAKINGS ≤ disk_room self.old.disk.rest → OnOk result (IsFreed H.Host self.old self.new 0 SETTLED) }
         ensures minds { OnOk result (IsTrue (H.tells Role.Work) → MindsCache H.Host None self.old self.new (λ k. ⊥)) }
         ensures rests { self.old.ledger.held + MAKINGS ≤ disk_room self.old.disk.rest → SETTLED ≤ spare_of self.old.parts → HasRested self.old self.new result }
+        ensures due { OnOk result (IsOnTime H.Host self.old self.new) }
+        ensures flag { OnOk result (KeepsThinned self.old self.new) }
         ensures fit { StaysCallable (IsSound H.Host) (loom_told H.Host) loom_lender (loom_outside H.Host) self.old self.new result }
     {
         if self.is_settled() {

@@ -43,6 +43,7 @@ impl<'h, H: Host> LoomMemory<'h, H> {
     ghost use Rattle.object_memory.specs.Fit.{KeepsCallable, MayCall, StaysCallable};
     ghost use Rattle.loom_memory.specs.Memory.{loom_told, loom_outside, loom_lender, name_if, IsPinned, IsSound};
     ghost use Rattle.loom_memory.specs.Gentle.{IsSteady};
+    ghost use Rattle.loom_memory.specs.Thinned.{StaysThinned};
     ghost use Rattle.loom_memory.specs.Damage.{IsDamaged};
     ghost use Rattle.loom_memory.specs.Freed.{IsFreedBy};
     ghost use Rattle.loom_memory.specs.Own.{BringsOne, IsSparing};
@@ -57,6 +58,8 @@ impl<'h, H: Host> LoomMemory<'h, H> {
         ensures told { loom_told H.Host self.new ≡ record (loom_told H.Host self.old) { slots = set_slot (loom_told H.Host self.old).slots slot (name_if (core_of self.old.parts).entries w) } }
         ensures sound { IsSound H.Host self.new }
         ensures steady { IsSteady H.Host self.old self.new }
+        ensures due { self.new.due ≡ self.old.due }
+        ensures stays { StaysThinned self.old self.new (pin_in self.old.pinned slot) }
         ensures lender { self.new.disk.host.ghost_name ≡ self.old.disk.host.ghost_name }
         ensures outside { loom_outside H.Host self.new ≡ loom_outside H.Host self.old }
     {
@@ -74,6 +77,8 @@ impl<'h, H: Host> LoomMemory<'h, H> {
         requires slot { slot < 3 }
         ensures told { loom_told H.Host self.new ≡ record (loom_told H.Host self.old) { slots = set_slot (loom_told H.Host self.old).slots slot None } }
         ensures steady { IsSteady H.Host self.old self.new }
+        ensures due { self.new.due ≡ self.old.due }
+        ensures stays { StaysThinned self.old self.new (pin_in self.old.pinned slot) }
         ensures fit { KeepsCallable (IsSound H.Host) (loom_told H.Host) loom_lender (loom_outside H.Host) self.old self.new }
     {
         self.put_slot(slot, 0);

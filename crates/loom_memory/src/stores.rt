@@ -96,7 +96,8 @@ impl<'h, H: Host> LoomMemory<'h, H> {
     ghost use Rattle.loom_memory.specs.Stores.{IsStored};
     ghost use Rattle.long_names.specs.State.{name_at};
     ghost use Rattle.loom_memory.specs.Damage.{IsDamageOf, IsDamaged};
-    ghost use Rattle.loom_memory.specs.Freed.{IsFreedBy, IsFreedFor};
+    ghost use Rattle.loom_memory.specs.Freed.{IsFreed, IsFreedBy, IsFreedFor, IsFreedShort};
+    ghost use Rattle.loom_memory.specs.Thinned.{StaysThinned};
     ghost use Rattle.loom_memory.specs.Residents.{fetched, is_resident};
     ghost use Rattle.purger.specs.Purge.{HasRoom};
     ghost use Rattle.loom_memory.specs.Gentle.{IsGlance, IsResting, Remains};
@@ -118,6 +119,8 @@ impl<'h, H: Host> LoomMemory<'h, H> {
         ensures idle { ((core_of self.old.parts).entries s.0).flags.marked ≡ false → self.new ≡ self.old }
         ensures minds { MindsCache H.Host None self.old self.new (λ k. k ≡ ((core_of self.old.parts).entries s.0).name) }
         ensures spare { spare_of self.new.parts ≡ spare_of self.old.parts }
+        ensures due { self.new.due ≡ self.old.due }
+        ensures flag { self.new.thinned ≡ self.old.thinned }
         ensures lender { self.new.disk.host.ghost_name ≡ self.old.disk.host.ghost_name }
         ensures outside { loom_outside H.Host self.new ≡ loom_outside H.Host self.old }
     {
@@ -143,6 +146,7 @@ impl<'h, H: Host> LoomMemory<'h, H> {
         ensures core { OnOk result ((a : Access) → target_of a ≡ Some of → makes a ≡ 0 → IfBounds (loom_told H.Host self.old).bounds (HasCore (loom_told H.Host self.old) a)) }
         ensures err { IfErr result (λ f. (a : Access) → target_of a ≡ Some of → makes a ≡ 0 → IsSilent a → IsRefused (loom_told H.Host self.old) (loom_told H.Host self.new) a f) }
         ensures brings { BringsOne self.old self.new (is_resident self.old (name_at ((loom_told H.Host self.old).regs of)) ≡ false) }
+        ensures regs { OnOk result (self.new.regs ≡ self.old.regs) }
         ensures lender { self.new.disk.host.ghost_name ≡ self.old.disk.host.ghost_name }
         ensures outside { loom_outside H.Host self.new ≡ loom_outside H.Host self.old }
     {
@@ -174,6 +178,8 @@ impl<'h, H: Host> LoomMemory<'h, H> {
         ensures core { OnOk result ((a : Access) → target_of a ≡ Some of → makes a ≡ 0 → IfBounds (loom_told H.Host self.old).bounds (HasCore (loom_told H.Host self.old) a)) }
         ensures err { IfErr result (λ f. (a : Access) → target_of a ≡ Some of → makes a ≡ 0 → IsSilent a → IsRefused (loom_told H.Host self.old) (loom_told H.Host self.new) a f) }
         ensures brings { BringsOne self.old self.new ((is_resident self.old (name_at ((loom_told H.Host self.old).regs of)) ≡ false) ⊎ (HasRoom self.old.parts 0 SPARE → ⊥)) }
+        ensures entries { OnOk result (IsFreed H.Host self.old self.new 0 SPARE) }
+        ensures regs { OnOk result (self.new.regs ≡ self.old.regs) }
         ensures lender { self.new.disk.host.ghost_name ≡ self.old.disk.host.ghost_name }
         ensures outside { loom_outside H.Host self.new ≡ loom_outside H.Host self.old }
     {
@@ -201,6 +207,8 @@ impl<'h, H: Host> LoomMemory<'h, H> {
         ensures resting { IsResting self.old self.new }
         ensures none { Remains (core_of self.new.parts) (core_of self.old.parts) }
         ensures cached { KeepsCache H.Host self.old self.new }
+        ensures due { self.new.due ≡ self.old.due }
+        ensures stays { StaysThinned self.old self.new old }
         ensures lender { self.new.disk.host.ghost_name ≡ self.old.disk.host.ghost_name }
         ensures outside { loom_outside H.Host self.new ≡ loom_outside H.Host self.old }
     {
@@ -228,6 +236,7 @@ impl<'h, H: Host> LoomMemory<'h, H> {
         ensures damage { IfErr result (IsDamageOf self.new.disk.rest ((core_of self.old.parts).entries s.0).name) }
         ensures err { IfErr result (IsRefused (loom_told H.Host self.old) (loom_told H.Host self.new) (SetField of i from)) }
         ensures brings { fetched self.new ≡ fetched self.old }
+        ensures due { OnOk result (self.new.due ≡ self.old.due) }
         ensures lender { self.new.disk.host.ghost_name ≡ self.old.disk.host.ghost_name }
         ensures outside { loom_outside H.Host self.new ≡ loom_outside H.Host self.old }
     {
@@ -264,6 +273,8 @@ impl<'h, H: Host> LoomMemory<'h, H> {
         ensures resting { IsResting self.old self.new }
         ensures cached { ((core_of self.old.parts).entries s.0).flags.marked ≡ false → KeepsCache H.Host self.old self.new }
         ensures minds { MindsCache H.Host None self.old self.new (λ k. k ≡ ((core_of self.old.parts).entries s.0).name) }
+        ensures due { self.new.due ≡ self.old.due }
+        ensures stays { StaysThinned self.old self.new w }
         ensures lender { self.new.disk.host.ghost_name ≡ self.old.disk.host.ghost_name }
         ensures outside { loom_outside H.Host self.new ≡ loom_outside H.Host self.old }
     {
@@ -288,6 +299,7 @@ impl<'h, H: Host> LoomMemory<'h, H> {
         ensures gone { OnOk result (IsFreedBy H.Host self.old self.new (name_at ((loom_told H.Host self.old).regs of)) (SetField of i from)) }
         ensures damage { IsDamaged self.old self.new (name_at ((loom_told H.Host self.old).regs of)) result }
         ensures brings { BringsOne self.old self.new ((is_resident self.old (name_at ((loom_told H.Host self.old).regs of)) ≡ false) ⊎ (HasRoom self.old.parts 0 SPARE → ⊥)) }
+        ensures short { OnOk result (IsFreedShort H.Host self.old self.new (SetField of i from)) }
         ensures fit { StaysCallable (IsSound H.Host) (loom_told H.Host) loom_lender (loom_outside H.Host) self.old self.new result }
     {
         match self.open_with_room(of) {
@@ -309,6 +321,8 @@ impl<'h, H: Host> LoomMemory<'h, H> {
         ensures gone { OnOk result (IsFreedBy H.Host self.old self.new (name_at ((loom_told H.Host self.old).regs of)) (SetField of i from)) }
         ensures damage { IsDamaged self.old self.new (name_at ((loom_told H.Host self.old).regs of)) result }
         ensures brings { BringsOne self.old self.new ((is_resident self.old (name_at ((loom_told H.Host self.old).regs of)) ≡ false) ⊎ (HasRoom self.old.parts 0 SPARE → ⊥)) }
+        ensures short { OnOk result ((IsAtHand self.old (name_at ((loom_told H.Host self.old).regs of)) i → ⊥) → IsFreedShort H.Host self.old self.new (SetField of i from)) }
+        ensures stays { OnOk result ((at w : ℕ) → IsAt (core_of self.old.parts) (word_in self.old.regs of) at i w → w ≢ 0 → StaysThinned self.old self.new w) }
         ensures fit { StaysCallable (IsSound H.Host) (loom_told H.Host) loom_lender (loom_outside H.Host) self.old self.new result }
     {
         match self.here(of) {
@@ -341,6 +355,8 @@ impl<'h, H: Host> LoomMemory<'h, H> {
         ensures damage { IfErr result (IsDamageOf self.new.disk.rest ((core_of self.old.parts).entries s.0).name) }
         ensures err { IfErr result (λ f. (a : Access) → IsSilent a → makes a ≡ 0 → IsRefused (loom_told H.Host self.old) (loom_told H.Host self.new) a f) }
         ensures brings { fetched self.new ≡ fetched self.old }
+        ensures due { OnOk result (self.new.due ≡ self.old.due) }
+        ensures flag { OnOk result (self.new.thinned ≡ self.old.thinned) }
         ensures lender { self.new.disk.host.ghost_name ≡ self.old.disk.host.ghost_name }
         ensures outside { loom_outside H.Host self.new ≡ loom_outside H.Host self.old }
     {
@@ -413,6 +429,8 @@ impl<'h, H: Host> LoomMemory<'h, H> {
         ensures damage { IfErr result (IsDamageOf self.new.disk.rest ((core_of self.old.parts).entries s.0).name) }
         ensures err { IfErr result (IsRefused (loom_told H.Host self.old) (loom_told H.Host self.new) (SetByte of i b)) }
         ensures brings { fetched self.new ≡ fetched self.old }
+        ensures due { OnOk result (self.new.due ≡ self.old.due) }
+        ensures flag { OnOk result (self.new.thinned ≡ self.old.thinned) }
         ensures lender { self.new.disk.host.ghost_name ≡ self.old.disk.host.ghost_name }
         ensures outside { loom_outside H.Host self.new ≡ loom_outside H.Host self.old }
     {

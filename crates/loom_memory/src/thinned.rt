@@ -19,7 +19,8 @@ use object_table::Short;
 fn is_named(p: &Parts, w: u16) -> bool
     requires parts { IsParts p.now }
     requires used { is_short w ≡ true → is_used ((core_of p.now).entries w).state ≡ true }
-    ensures { IsTrue result → is_short w ≡ true → IsNamedIn (core_of p.now) w }
+    ensures yes { IsTrue result → is_short w ≡ true → IsNamedIn (core_of p.now) w }
+    ensures no { (is_short w ≡ true → IsNamedIn (core_of p.now) w) → IsTrue result }
 {
     if !is_name(w) {
         return true;
@@ -31,13 +32,14 @@ fn is_named(p: &Parts, w: u16) -> bool
     e.name.is_known()
 }
 
-// A word went: it is said no more that nothing is dead where its object may be.
+// A word went: it is said no more that nothing is dead just where its object may be.
 #[inline(always)]
 pub(crate) fn note_gone(p: &Parts, thinned: &mut bool, w: u16)
     requires parts { IsParts p.now }
     requires used { is_short w ≡ true → is_used ((core_of p.now).entries w).state ≡ true }
     ensures was { thinned.new ≡ true → thinned.old ≡ true }
     ensures named { thinned.new ≡ true → is_short w ≡ true → IsNamedIn (core_of p.now) w }
+    ensures stays { thinned.old ≡ true → (is_short w ≡ true → IsNamedIn (core_of p.now) w) → thinned.new ≡ true }
 {
     if *thinned {
         *thinned = is_named(p, w);

@@ -2,7 +2,7 @@ use Rattle.std.proofs.Common.{IsTrue}
 use Rattle.loom_host.specs.declared.outside.Role.TheVariants.{Work}
 use Rattle.loom_memory.specs.Memory.{loom_told}
 use Rattle.loom_memory.proofs.AskLaws.{ask-bodies, ask-early, ask-full, ask-held, ask-next, ask-refused, ask-room, ask-spared, ask-sure, ask-thinned}
-use Rattle.loom_memory.proofs.FirstRoomLaws.{gone-where}
+use Rattle.loom_memory.proofs.TimeLaws.{asked-gone, asked-time}
 use Rattle.loom_memory.proofs.MakingLaws.{thinned-ready}
 use Rattle.loom_memory.proofs.MindLaws.{minds-told}
 use Rattle.std.proofs.Common.{◌∙◌}
@@ -57,4 +57,7 @@ pub returns-in-Err-clause-sure : goal.returns-in-Err-clause-sure
 returns-in-Err-clause-sure g c = λ low room. c.in-Err.ensures.sure low
 
 pub returns-in-Ok-clause-gone : goal.returns-in-Ok-clause-gone
-returns-in-Ok-clause-gone g c = gone-where c.free_first.result g.H.Host c.args.self.now c.ask_room.new.self c.free_first.new.self c.args.words 27 c.in-Ok.ensures.roomy c.free_first.ensures.gone
+returns-in-Ok-clause-gone g c = asked-gone c.free_first.result g.H.Host c.args.self.now c.ask_room.new.self c.free_first.new.self c.args.words c.in-Ok.ensures.roomy c.in-Ok.ensures.alive c.free_first.ensures.gone c.free_first.ensures.still
+
+pub returns-in-Ok-clause-due : goal.returns-in-Ok-clause-due
+returns-in-Ok-clause-due g c = asked-time c.free_first.result g.H.Host c.args.self.now c.ask_room.new.self c.free_first.new.self c.in-Ok.ensures.roomy c.in-Ok.ensures.alive c.free_first.ensures.due c.free_first.ensures.still

@@ -1,3 +1,6 @@
+use Rattle.std.proofs.Common.{◌≤◌}
+use Rattle.loom_memory.specs.Freed.{IsAlive}
+use Rattle.loom_memory.proofs.TimeLaws.{each-ok}
 use Rattle.std.proofs.Common.{◌<◌, refl, arith, ⊎_elim}
 use Rattle.disk_objects.specs.Disk.{disk_room}
 use Rattle.loom_memory.specs.Memory.{loom_told}
@@ -26,3 +29,9 @@ returns-clause-sure g c = err-each c.free_one.result (λ low. let no = c.if-self
 
 pub returns-then-self-room-clause-minds : goal.returns-then-self-room-clause-minds
 returns-then-self-room-clause-minds g c = λ told. minds-refl g.H.Host c.args.self.now (λ k. ⊥) c.requires.sound
+
+pub returns-then-self-room-clause-alive : goal.returns-then-self-room-clause-alive
+returns-then-self-room-clause-alive g c = λ full. let low = c.if-self-room.true in absurd (omega (arith, low, full))
+
+pub returns-clause-alive : goal.returns-clause-alive
+returns-clause-alive g c = each-ok (disk_room c.args.self.now.disk.rest ≤ c.args.self.now.ledger.held) (IsAlive (loom_told g.H.Host c.free_one.new.self)) c.free_one.result c.free_one.ensures.alive

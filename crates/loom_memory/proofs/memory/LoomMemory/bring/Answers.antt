@@ -1,3 +1,5 @@
+use Rattle.loom_memory.proofs.TimeLaws.{time-read, time-same, keeps-read}
+use Rattle.loom_memory.proofs.FirstRoomLaws.{same-first}
 use Rattle.std.proofs.Common.{◌≡◌, ◌≤◌, true, None, Some, refl, sym, ◌∙◌, ap, subst}
 use Rattle.object_table.specs.declared.entry.Entry.{Entry}
 use Rattle.object_table.specs.Entries.{place_of}
@@ -147,3 +149,18 @@ returns-in-Ok-clause-brings g c = brings-leaf c.bring_leaf.result c.args.self.no
 
 pub returns-in-Err-clause-brings : goal.returns-in-Err-clause-brings
 returns-in-Err-clause-brings g c = brings-none c.args.self.now c.look.new.self _ c.look.ensures.brings
+
+pub returns-then-is_some-clause-due : goal.returns-then-is_some-clause-due
+returns-then-is_some-clause-due g c = time-same g.H.Host c.args.self.now c.args.self.now refl
+
+pub returns-then-is_some-clause-flag : goal.returns-then-is_some-clause-flag
+returns-then-is_some-clause-flag g c = λ on. on
+
+pub returns-in-Ok-clause-due : goal.returns-in-Ok-clause-due
+returns-in-Ok-clause-due g c = time-read c.bring_leaf.result g.H.Host c.args.self.now c.look.new.self c.bring_leaf.new.self c.in-Ok.ensures.due c.bring_leaf.ensures.due
+
+pub returns-in-Ok-clause-flag : goal.returns-in-Ok-clause-flag
+returns-in-Ok-clause-flag g c = keeps-read c.bring_leaf.result c.args.self.now c.look.new.self c.bring_leaf.new.self c.in-Ok.ensures.flag c.bring_leaf.ensures.flag
+
+pub returns-in-Ok-clause-pins : goal.returns-in-Ok-clause-pins
+returns-in-Ok-clause-pins g c = same-first c.bring_leaf.result c.args.self.now.pinned c.look.new.self.pinned c.bring_leaf.new.self.pinned c.in-Ok.ensures.pins c.bring_leaf.ensures.pins

@@ -1,3 +1,4 @@
+use Rattle.loom_memory.proofs.TimeLaws.{time-quiet}
 use Rattle.std.proofs.Common.{◌≡◌, ℕ, ◌∙◌, ap, subst, arith}
 use Rattle.loom_host.specs.declared.outside.Role.TheVariants.{Work}
 use Rattle.object_record.specs.Buffer.{raw_of}
@@ -120,3 +121,12 @@ returns-then-enough-clause-minds g c =
     let u = c.clear_first.new.self in
     let s = c.args.s.0 in
     minds-then g.H.Host m u c.come.new.self (λ k. ⊥) (λ k. k ≡ ((core_of u.parts).entries s).name) (λ k. k ≡ ((core_of m.parts).entries s).name) (λ k no. absurd no) (λ k is. is ∙ c.in-Ok.ensures.calm.live s c.requires.out) c.in-Ok.ensures.minds c.come.ensures.minds
+
+pub returns-then-enough-clause-due : goal.returns-then-enough-clause-due
+returns-then-enough-clause-due g c = time-quiet g.H.Host c.args.self.now c.clear_first.new.self c.come.new.self c.in-Ok.ensures.due c.come.ensures.due c.come.ensures.quiet
+
+pub returns-then-enough-clause-flag : goal.returns-then-enough-clause-flag
+returns-then-enough-clause-flag g c = λ on. c.come.ensures.flag ∙ c.in-Ok.ensures.flag on
+
+pub returns-then-enough-clause-pins : goal.returns-then-enough-clause-pins
+returns-then-enough-clause-pins g c = c.come.ensures.pins ∙ c.in-Ok.ensures.pins

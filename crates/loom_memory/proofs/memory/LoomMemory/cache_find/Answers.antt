@@ -104,3 +104,9 @@ returns-in-None-clause-steady g c = steady-refl g.H.Host c.args.self.now
 
 pub returns-in-Some-clause-steady : goal.returns-in-Some-clause-steady
 returns-in-Some-clause-steady g c = c.put_word.ensures.steady
+
+pub returns-then-not-names_marked-clause-stays : goal.returns-then-not-names_marked-clause-stays
+returns-then-not-names_marked-clause-stays g c = λ on named. on
+
+pub returns-in-None-clause-stays : goal.returns-in-None-clause-stays
+returns-in-None-clause-stays g c = λ on named. on

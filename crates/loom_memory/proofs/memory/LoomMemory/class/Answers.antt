@@ -1,3 +1,6 @@
+use Rattle.loom_memory.proofs.TimeLaws.{both-rest}
+use Rattle.loom_memory.specs.Thinned.{StaysThinned}
+use Rattle.loom_memory.specs.Memory.{word_in}
 use Rattle.std.proofs.Common.{◌≡◌, [], None, refl, sym, ◌∙◌, ap, subst}
 use Rattle.long_names.specs.Names.{SMALL_INTEGER}
 use Rattle.long_names.specs.State.{IsRef}
@@ -102,3 +105,9 @@ returns-then-is_name-clause-gone g c = λ ref. c.class_of_object.ensures.gone
 
 pub returns-clause-gone : goal.returns-clause-gone
 returns-clause-gone g c = λ ref. absurd (subst IsRef (number-is g c) ref)
+
+pub returns-then-is_name-clause-rests : goal.returns-then-is_name-clause-rests
+returns-then-is_name-clause-rests g c = no-number c.class_of_object.result ((loom_told g.H.Host c.args.self.now).regs c.args.of) ((core_of c.args.self.now.parts).entries c.word_of-w.result).name _ (name-is g c)
+
+pub returns-clause-rests : goal.returns-clause-rests
+returns-clause-rests g c = then-number (IsSome (int_of ((loom_told g.H.Host c.args.self.now).regs c.args.of))) ((c.put_name.new.self.due ≡ c.args.self.now.due) × StaysThinned c.args.self.now c.put_name.new.self (word_in c.args.self.now.regs c.args.to)) c.put_name.result (both-rest (c.put_name.new.self.due ≡ c.args.self.now.due) (StaysThinned c.args.self.now c.put_name.new.self (word_in c.args.self.now.regs c.args.to)) c.put_name.result c.put_name.ensures.due c.put_name.ensures.stays)

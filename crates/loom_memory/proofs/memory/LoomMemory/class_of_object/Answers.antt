@@ -1,3 +1,5 @@
+use Rattle.loom_memory.specs.Memory.{word_in}
+use Rattle.loom_memory.proofs.TimeLaws.{stays-on, word-same}
 use Rattle.std.proofs.Common.{Ok, ◌≡◌, ◌≤◌, ℕ, [], Some, true, IsTrue, refl, sym, ◌∙◌, ap, subst}
 use Rattle.long_names.specs.declared.value.Value.{Value}
 use Rattle.long_names.specs.declared.value.Value.TheVariants.{Ref}
@@ -97,4 +99,5 @@ pub returns-in-Ok-clause-brings : goal.returns-in-Ok-clause-brings
 returns-in-Ok-clause-brings g c = brings-then c.args.self.now c.load.new.self c.put_word.new.self _ c.load.ensures.brings c.put_word.ensures.steady.idle.fetches
 
 pub returns-in-Ok-clause-gone : goal.returns-in-Ok-clause-gone
-returns-in-Ok-clause-gone g c = done-by {T = Unit {0}} (Ok tt) g.H.Host c.args.self.now c.load.new.self c.put_word.new.self (name_at ((loom_told g.H.Host c.args.self.now).regs c.args.of)) (Class c.args.to c.args.of) c.in-Ok.ensures.thinned c.in-Ok.ensures.gone (λ told. ap (λ (t : Told). t.heap) (told-of g c))
+returns-in-Ok-clause-gone g c = done-by {T = Unit {0}} (Ok tt) g.H.Host c.args.self.now c.load.new.self c.put_word.new.self (name_at ((loom_told g.H.Host c.args.self.now).regs c.args.of)) (Class c.args.to c.args.of) c.in-Ok.ensures.thinned c.in-Ok.ensures.gone (λ told. ap (λ (t : Told). t.heap) (told-of g c)) c.put_word.ensures.due
+    (stays-on c.args.self.now c.load.new.self c.put_word.new.self (word_in c.args.self.now.regs c.args.to) (word_in c.load.new.self.regs c.args.to) c.in-Ok.ensures.gone.stays (word-same c.args.self.now c.load.new.self c.args.to c.in-Ok.ensures.regs) c.put_word.ensures.stays)

@@ -1,3 +1,4 @@
+use Rattle.loom_memory.proofs.TimeLaws.{time-calm, keeps-last}
 use Rattle.loom_memory.specs.Memory.{loom_told}
 use Rattle.loom_memory.proofs.FirstRoomLaws.{calm-first, err-first, gentle-first, gone-first, idle-first, leaf-first, ledger-first, quiet-first, read-first, same-first, sure-first}
 use Rattle.loom_memory.proofs.MakingLaws.{thinned-ready}
@@ -49,3 +50,9 @@ returns-in-Ok-clause-err g c = err-first c.clear.result (loom_told g.H.Host c.ar
 
 pub returns-in-Err-clause-err : goal.returns-in-Err-clause-err
 returns-in-Err-clause-err g c = λ a of target silent none. c.in-Err.ensures.access a silent none
+
+pub returns-in-Ok-clause-due : goal.returns-in-Ok-clause-due
+returns-in-Ok-clause-due g c = time-calm c.clear.result g.H.Host c.args.self.now c.free_first.new.self c.clear.new.self c.in-Ok.ensures.due c.clear.ensures.due c.clear.ensures.quiet
+
+pub returns-in-Ok-clause-flag : goal.returns-in-Ok-clause-flag
+returns-in-Ok-clause-flag g c = keeps-last c.clear.result c.args.self.now c.free_first.new.self c.clear.new.self c.free_first.ensures.lasts c.clear.ensures.flag

@@ -1,3 +1,4 @@
+use Rattle.loom_memory.proofs.FirstRoomLaws.{same-first}
 use Rattle.std.proofs.Common.{refl, sym, subst}
 use Rattle.std.specs.Result.{OnOk, IfErr}
 use Rattle.object_memory.specs.Told.{Told, IsReady}
@@ -43,3 +44,12 @@ returns-in-Some-clause-minds g c = minds-steady g.H.Host c.args.self.now c.entry
 
 pub returns-in-None-clause-minds : goal.returns-in-None-clause-minds
 returns-in-None-clause-minds g c = steady-then c.free_entry.result g.H.Host c.args.self.now c.entry_for.new.self c.free_entry.new.self (λ k. ⊥) c.requires.sound c.entry_for.ensures.sound.kept.parts.core c.entry_for.ensures.steady c.free_entry.ensures.minds
+
+pub returns-in-None-clause-due : goal.returns-in-None-clause-due
+returns-in-None-clause-due g c = same-first c.free_entry.result c.args.self.now.due c.entry_for.new.self.due c.free_entry.new.self.due c.entry_for.ensures.due c.free_entry.ensures.due
+
+pub returns-in-None-clause-flag : goal.returns-in-None-clause-flag
+returns-in-None-clause-flag g c = same-first c.free_entry.result c.args.self.now.thinned c.entry_for.new.self.thinned c.free_entry.new.self.thinned c.entry_for.ensures.flag c.free_entry.ensures.flag
+
+pub returns-in-None-clause-regs : goal.returns-in-None-clause-regs
+returns-in-None-clause-regs g c = same-first c.free_entry.result c.args.self.now.regs c.entry_for.new.self.regs c.free_entry.new.self.regs c.entry_for.ensures.regs c.free_entry.ensures.regs

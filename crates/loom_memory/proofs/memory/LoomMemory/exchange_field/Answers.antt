@@ -207,3 +207,6 @@ returns-clause-none g c =
     let b = core_of c.put_field.new.p in
     let d = core_of c.lower_word.new.p in
     remains-trans d a x (remains-trans d b a (recount-none b d c.lower_word.ensures.recount) (came-remains a b (stored-came a b c.args.s.0 c.put_field.ensures.within (ap (λ (e : Entry). place_of e.state) c.put_field.ensures.entry) (ap (λ (e : Entry). e.name) c.put_field.ensures.entry)))) (recount-none x a c.raise_word.ensures.recount)
+
+pub returns-clause-stays : goal.returns-clause-stays
+returns-clause-stays g c = c.note_gone.ensures.stays

@@ -1,3 +1,7 @@
+use Rattle.loom_memory.proofs.ReachLaws.{short-off}
+use Rattle.loom_memory.specs.Own.{IsAtHand}
+use Rattle.loom_memory.specs.Freed.{IsFreedShort}
+use Rattle.loom_memory.proofs.TimeLaws.{at-hand}
 use Rattle.std.proofs.Common.{◌≡◌, [], Some, Ok, IsTrue, refl, sym, ap}
 use Rattle.long_names.specs.Access.{Field, brought}
 use Rattle.long_names.specs.State.{name_at}
@@ -70,4 +74,13 @@ pub returns-in-Some-word_in_body-clause-brings : goal.returns-in-Some-word_in_bo
 returns-in-Some-word_in_body-clause-brings g c = brings-none c.args.self.now c.put_word.new.self _ c.put_word.ensures.steady.idle.fetches
 
 pub returns-in-Some-word_in_body-clause-gone : goal.returns-in-Some-word_in_body-clause-gone
-returns-in-Some-word_in_body-clause-gone g c = done-here {T = Unit {0}} (Ok tt) g.H.Host c.args.self.now c.put_word.new.self (name_at ((loom_told g.H.Host c.args.self.now).regs c.args.of)) (Field c.args.to c.args.of c.args.i) c.in-Some.ensures.there
+returns-in-Some-word_in_body-clause-gone g c = done-here {T = Unit {0}} (Ok tt) g.H.Host c.args.self.now c.put_word.new.self (name_at ((loom_told g.H.Host c.args.self.now).regs c.args.of)) (Field c.args.to c.args.of c.args.i) c.in-Some.ensures.there c.put_word.ensures.due c.put_word.ensures.stays
+
+pub returns-in-Some-word_in_body-clause-short : goal.returns-in-Some-word_in_body-clause-short
+returns-in-Some-word_in_body-clause-short g c = λ off. absurd (let at = c.in-Some-word_in_body.ensures.word in off (at-hand g.H.Host c.args.self.now c.args.of c.in-Some.s.0 c.args.i at.0 c.in-Some-word_in_body.w c.requires.fit.sound c.requires.may.names c.in-Some.ensures.word at.1 at.2))
+
+pub returns-in-None-word_in_body-clause-short : goal.returns-in-None-word_in_body-clause-short
+returns-in-None-word_in_body-clause-short g c = short-off (IsAtHand c.args.self.now (name_at ((loom_told g.H.Host c.args.self.now).regs c.args.of)) c.args.i → ⊥) (IsFreedShort g.H.Host c.args.self.now c.field_on_disk.new.self (Field c.args.to c.args.of c.args.i)) c.field_on_disk.result c.field_on_disk.ensures.short
+
+pub returns-in-None-clause-short : goal.returns-in-None-clause-short
+returns-in-None-clause-short g c = short-off (IsAtHand c.args.self.now (name_at ((loom_told g.H.Host c.args.self.now).regs c.args.of)) c.args.i → ⊥) (IsFreedShort g.H.Host c.args.self.now c.field_on_disk-in-None.new.self (Field c.args.to c.args.of c.args.i)) c.field_on_disk-in-None.result c.field_on_disk-in-None.ensures.short

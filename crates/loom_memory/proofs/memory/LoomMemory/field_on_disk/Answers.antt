@@ -1,3 +1,6 @@
+use Rattle.loom_memory.proofs.TimeLaws.{stays-then, word-same}
+use Rattle.loom_memory.proofs.ReachLaws.{done-short}
+use Rattle.loom_memory.specs.Memory.{word_in}
 use Rattle.std.proofs.Common.{refl, ◌∙◌}
 use Rattle.long_names.specs.Access.{Field, Nothing}
 use Rattle.loom_memory.specs.Memory.{loom_told}
@@ -59,5 +62,9 @@ pub returns-in-Ok-clause-gone : goal.returns-in-Ok-clause-gone
 returns-in-Ok-clause-gone g c =
     let m = c.args.self.now in
     let u = c.load_with_room.new.self in
-    done-by c.take_field.result g.H.Host m u c.take_field.new.self (name_at ((loom_told g.H.Host c.args.self.now).regs c.args.of)) (Field c.args.to c.args.of c.args.i) c.in-Ok.ensures.thinned (freed-away g.H.Host m u c.args.of c.requires.fit.sound c.requires.may.names c.in-Ok.ensures.gone)
+    done-by c.take_field.result g.H.Host m u c.take_field.new.self (name_at ((loom_told g.H.Host c.args.self.now).regs c.args.of)) (Field c.args.to c.args.of c.args.i) c.in-Ok.ensures.thinned (freed-away g.H.Host m u c.args.of c.requires.fit.sound c.requires.may.names c.in-Ok.ensures.gone c.in-Ok.ensures.due c.in-Ok.ensures.flag)
     (taken-heap c.take_field.result g.H.Host u c.take_field.new.self c.args.to c.args.of c.args.i c.take_field.ensures.taken)
+    c.take_field.ensures.due (stays-then c.take_field.result m u c.take_field.new.self (word_in m.regs c.args.to) (word_in u.regs c.args.to) c.in-Ok.ensures.flag (word-same m u c.args.to c.in-Ok.ensures.regs) c.take_field.ensures.stays)
+
+pub returns-in-Ok-clause-short : goal.returns-in-Ok-clause-short
+returns-in-Ok-clause-short g c = done-short c.take_field.result g.H.Host c.args.self.now c.load_with_room.new.self c.take_field.new.self (Field c.args.to c.args.of c.args.i) c.in-Ok.ensures.thinned c.in-Ok.ensures.entries (taken-heap c.take_field.result g.H.Host c.load_with_room.new.self c.take_field.new.self c.args.to c.args.of c.args.i c.take_field.ensures.taken)

@@ -1,3 +1,4 @@
+use Rattle.std.proofs.Common.{◌∙◌}
 use Rattle.std.proofs.Common.{sym, subst}
 use Rattle.core_segment.specs.Segment.{largest_of}
 use Rattle.long_names.specs.Heap.{Has}
@@ -43,3 +44,12 @@ pub returns-in-Some-clause-minds : goal.returns-in-Some-clause-minds
 returns-in-Some-clause-minds g c =
     let s = c.entry_for.ensures.steady in
     minds-step g.H.Host c.args.self.now c.clear.new.self c.entry_for.new.self (λ k. ⊥) c.in-Ok.ensures.minds c.in-Ok.ensures.sound.kept.parts.core c.entry_for.ensures.sound.kept.parts.core s.gentle.remains s.none s.gentle.cache
+
+pub returns-in-Some-clause-due : goal.returns-in-Some-clause-due
+returns-in-Some-clause-due g c = c.entry_for.ensures.due ∙ c.in-Ok.ensures.due
+
+pub returns-in-Some-clause-flag : goal.returns-in-Some-clause-flag
+returns-in-Some-clause-flag g c = c.entry_for.ensures.flag ∙ c.in-Ok.ensures.flag
+
+pub returns-in-Some-clause-regs : goal.returns-in-Some-clause-regs
+returns-in-Some-clause-regs g c = c.entry_for.ensures.regs ∙ c.in-Ok.ensures.regs

@@ -1,4 +1,5 @@
-use Rattle.std.proofs.Common.{refl, arith}
+use Rattle.std.proofs.Common.{◌≡◌, true, false, refl, sym, ◌∙◌, arith}
+use Rattle.loom_memory.proofs.TimeLaws.{alive-is, still-alive, time-alive, time-same}
 use Rattle.leaf_lambda.specs.Parts.{core_of}
 use Rattle.loom_memory.specs.Memory.{loom_told}
 use Rattle.loom_memory.proofs.BringLaws.{quiet-same}
@@ -44,7 +45,7 @@ pub returns-then-has_room-clause-gone : goal.returns-then-has_room-clause-gone
 returns-then-has_room-clause-gone g c = λ lacks. absurd (lacks (c.has_room.ensures.has c.if-has_room.true))
 
 pub returns-then-self-clause-gone : goal.returns-then-self-clause-gone
-returns-then-self-clause-gone g c = λ lacks due. absurd (let early = c.if-self.true in omega (arith, early, due))
+returns-then-self-clause-gone g c = λ lacks due. alive-is g.H.Host c.args.self.now c.requires.sound.thin c.if-self.true
 
 pub returns-clause-gone : goal.returns-clause-gone
 returns-clause-gone g c = freed-if c.thin.result g.H.Host c.args.self.now c.thin.new.self c.args.words c.args.entries c.thin.ensures.again
@@ -54,3 +55,56 @@ returns-then-has_room-clause-calm g c = still-calm c.args.self.now.pinned (core_
 
 pub returns-then-self-clause-calm : goal.returns-then-self-clause-calm
 returns-then-self-clause-calm g c = still-calm c.args.self.now.pinned (core_of c.args.self.now.parts)
+
+pub returns-then-self-2-clause-thinned : goal.returns-then-self-2-clause-thinned
+returns-then-self-2-clause-thinned g c = quiet-thinned (loom_told g.H.Host c.args.self.now) (loom_told g.H.Host c.args.self.now) (quiet-same g.H.Host c.args.self.now) c.requires.ready
+
+pub returns-then-self-2-clause-bodies : goal.returns-then-self-2-clause-bodies
+returns-then-self-2-clause-bodies g c = λ told. bodies-same c.args.self.now.parts c.args.self.now.parts (loom_told g.H.Host c.args.self.now).heap refl
+
+pub returns-then-self-2-clause-minds : goal.returns-then-self-2-clause-minds
+returns-then-self-2-clause-minds g c = minds-refl g.H.Host c.args.self.now (λ k. ⊥) c.requires.sound
+
+pub returns-then-self-2-clause-calm : goal.returns-then-self-2-clause-calm
+returns-then-self-2-clause-calm g c = still-calm c.args.self.now.pinned (core_of c.args.self.now.parts)
+
+pub returns-then-self-2-clause-gone : goal.returns-then-self-2-clause-gone
+returns-then-self-2-clause-gone g c = λ lacks due. absurd (let early = c.if-self-2.true in omega (arith, early, due))
+
+-- ---- when it is looked for next
+
+pub returns-then-has_room-clause-due : goal.returns-then-has_room-clause-due
+returns-then-has_room-clause-due g c = time-same g.H.Host c.args.self.now c.args.self.now refl
+
+pub returns-then-self-clause-due : goal.returns-then-self-clause-due
+returns-then-self-clause-due g c = time-same g.H.Host c.args.self.now c.args.self.now refl
+
+pub returns-then-self-2-clause-due : goal.returns-then-self-2-clause-due
+returns-then-self-2-clause-due g c = time-same g.H.Host c.args.self.now c.args.self.now refl
+
+pub returns-clause-due : goal.returns-clause-due
+returns-clause-due g c = time-alive c.thin.result g.H.Host c.args.self.now c.thin.new.self c.thin.ensures.again
+
+pub returns-then-has_room-clause-lasts : goal.returns-then-has_room-clause-lasts
+returns-then-has_room-clause-lasts g c = λ on. refl
+
+pub returns-then-self-clause-lasts : goal.returns-then-self-clause-lasts
+returns-then-self-clause-lasts g c = λ on. refl
+
+pub returns-then-self-2-clause-lasts : goal.returns-then-self-2-clause-lasts
+returns-then-self-2-clause-lasts g c = λ on. refl
+
+pub returns-clause-lasts : goal.returns-clause-lasts
+returns-clause-lasts g c = λ on. absurd (let off = c.if-self.false in let both : true ≡ false = sym on ∙ off in cc)
+
+pub returns-then-has_room-clause-still : goal.returns-then-has_room-clause-still
+returns-then-has_room-clause-still g c = λ alive. alive
+
+pub returns-then-self-clause-still : goal.returns-then-self-clause-still
+returns-then-self-clause-still g c = λ alive. alive
+
+pub returns-then-self-2-clause-still : goal.returns-then-self-2-clause-still
+returns-then-self-2-clause-still g c = λ alive. alive
+
+pub returns-clause-still : goal.returns-clause-still
+returns-clause-still g c = still-alive c.thin.result g.H.Host c.args.self.now c.thin.new.self c.thin.ensures.again

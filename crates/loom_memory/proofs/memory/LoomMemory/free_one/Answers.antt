@@ -47,3 +47,7 @@ returns-then-self-room-clause-room g c = λ words has.
 
 pub returns-then-self-room-clause-minds : goal.returns-then-self-room-clause-minds
 returns-then-self-room-clause-minds g c = λ told. c.in-Ok.ensures.minds
+
+pub returns-then-self-room-clause-alive : goal.returns-then-self-room-clause-alive
+unfolding loom_told
+returns-then-self-room-clause-alive g c = λ told. c.in-Ok.ensures.again told

@@ -43,3 +43,6 @@ returns-clause-fit g c = record {
 
 pub returns-clause-steady : goal.returns-clause-steady
 returns-clause-steady g c = c.put_number.ensures.steady
+
+pub returns-then-word_of-w-clause-stays : goal.returns-then-word_of-w-clause-stays
+returns-then-word_of-w-clause-stays g c = λ on named. on

@@ -85,3 +85,9 @@ returns-in-None-clause-damage g c = nowhere-damage c.amiss.new.self.disk.rest ((
 
 pub returns-in-Some-clause-brings : goal.returns-in-Some-clause-brings
 returns-in-Some-clause-brings g c = c.word_for.ensures.steady.idle.fetches ∙ c.read_lambda.ensures.brings
+
+pub returns-in-Some-clause-due : goal.returns-in-Some-clause-due
+returns-in-Some-clause-due g c = c.word_for.ensures.due ∙ c.in-Ok.ensures.due
+
+pub returns-in-Some-clause-flag : goal.returns-in-Some-clause-flag
+returns-in-Some-clause-flag g c = c.word_for.ensures.flag ∙ c.in-Ok.ensures.flag

@@ -2,7 +2,7 @@ use Rattle.std.proofs.Common.{◌≡◌, true, false, refl, sym, ◌∙◌}
 use Rattle.long_names.specs.State.{name_at}
 use Rattle.loom_memory.specs.Memory.{loom_told}
 use Rattle.loom_memory.proofs.BringLaws.{quiet-same}
-use Rattle.loom_memory.proofs.FirstRoomLaws.{gone-for}
+use Rattle.loom_memory.proofs.ReachLaws.{freed-came, freed-here}
 use Rattle.loom_memory.proofs.MakingLaws.{quiet-thinned}
 use Rattle.loom_memory.proofs.GentleLaws.{here-sparing, come-sparing}
 use Rattle.loom_memory.proofs.BelowLaws.{tested-where}
@@ -38,7 +38,7 @@ pub returns-in-None-clause-brings : goal.returns-in-None-clause-brings
 returns-in-None-clause-brings g c = brings-where c.args.self.now c.load_with_room.new.self _ _ (λ any. c.in-None.ensures.away) c.load_with_room.ensures.brings
 
 pub returns-in-Some-clause-gone : goal.returns-in-Some-clause-gone
-returns-in-Some-clause-gone g c = λ told away. absurd (let both : true ≡ false = sym c.in-Some.ensures.there ∙ away in cc)
+returns-in-Some-clause-gone g c = freed-here g.H.Host c.args.self.now (name_at ((loom_told g.H.Host c.args.self.now).regs c.args.of)) c.in-Some.ensures.there
 
 pub returns-in-None-clause-gone : goal.returns-in-None-clause-gone
-returns-in-None-clause-gone g c = gone-for c.load_with_room.result _ _ _ _ c.in-None.ensures.leaf c.load_with_room.ensures.gone
+returns-in-None-clause-gone g c = freed-came c.load_with_room.result g.H.Host c.args.self.now c.load_with_room.new.self c.args.of (name_at ((loom_told g.H.Host c.args.self.now).regs c.args.of)) c.in-None.ensures.leaf c.load_with_room.ensures.gone c.load_with_room.ensures.due c.load_with_room.ensures.flag

@@ -1,3 +1,4 @@
+use Rattle.loom_memory.proofs.TimeLaws.{time-thinned, gone-short}
 use Rattle.std.specs.List.{slice_index_or}
 use Rattle.std.proofs.Common.{◌≡◌, ◌≤◌, ℕ, List, [], None, Some, refl, sym, ◌∙◌, ap, subst, arith}
 use Rattle.core_view.specs.Counts.{outside}
@@ -202,3 +203,18 @@ returns-in-Ok-bring-clause-brings g c = brings-where c.args.self.now c.bring.new
 pub returns-in-Err-bring-clause-brings : goal.returns-in-Err-bring-clause-brings
 returns-in-Err-bring-clause-brings g c = brings-where c.args.self.now c.bring.new.self _ _ (leaf-away g.H.Host c.args.self.now c.args.of (slice_index_or c.args.self.now.regs c.index.result 0) (HasRoom c.args.self.now.parts 0 27 → ⊥) c.requires.sound c.requires.name (word-is c.args.self.now.regs c.index.result c.args.of c.index.ensures.same c.index.ensures.within c.requires.sound.kept.many))
     (brings-later c.args.self.now c.clear_first.new.self c.bring.new.self (slice_index_or c.args.self.now.regs c.index.result 0) c.clear_first.ensures.brings (λ room. c.in-Ok.ensures.idle room refl) c.bring.ensures.brings)
+
+pub returns-in-Ok-bring-clause-due : goal.returns-in-Ok-bring-clause-due
+returns-in-Ok-bring-clause-due g c = time-thinned g.H.Host c.args.self.now c.clear_first.new.self c.bring.new.self c.in-Ok.ensures.due c.in-Ok-bring.ensures.due c.in-Ok-bring.ensures.thinned (thinned-ready (loom_told g.H.Host c.args.self.now) (loom_told g.H.Host c.clear_first.new.self) c.in-Ok.ensures.thinned c.requires.ready)
+
+pub returns-in-Ok-bring-clause-flag : goal.returns-in-Ok-bring-clause-flag
+returns-in-Ok-bring-clause-flag g c = λ on. c.in-Ok-bring.ensures.flag (c.in-Ok.ensures.flag on)
+
+pub returns-in-Ok-bring-clause-entries : goal.returns-in-Ok-bring-clause-entries
+returns-in-Ok-bring-clause-entries g c = gone-short g.H.Host c.args.self.now c.clear_first.new.self c.bring.new.self c.in-Ok.ensures.gone c.in-Ok-bring.ensures.thinned (thinned-ready (loom_told g.H.Host c.args.self.now) (loom_told g.H.Host c.clear_first.new.self) c.in-Ok.ensures.thinned c.requires.ready)
+
+pub returns-in-Ok-bring-clause-regs : goal.returns-in-Ok-bring-clause-regs
+returns-in-Ok-bring-clause-regs g c = c.in-Ok-bring.ensures.regs ∙ c.in-Ok.ensures.regs
+
+pub returns-in-Ok-bring-clause-pins : goal.returns-in-Ok-bring-clause-pins
+returns-in-Ok-bring-clause-pins g c = c.in-Ok-bring.ensures.pins ∙ c.in-Ok.ensures.pins

@@ -1,3 +1,4 @@
+use Rattle.loom_memory.proofs.FirstRoomLaws.{same-first}
 use Rattle.std.proofs.Common.{◌≡◌, ◌<◌, ◌∙◌, ℕ, ap, sym, subst, arith}
 use Rattle.loom_memory.specs.Memory.{loom_told}
 use Rattle.loom_memory.specs.New.{making_of}
@@ -121,3 +122,6 @@ returns-then-enough-clause-minds g c = minds-after c.put_object.result g.H.Host 
 
 pub returns-else-enough-clause-fetches : goal.returns-else-enough-clause-fetches
 returns-else-enough-clause-fetches g c = c.full_new-in-Ok.ensures.fetches ∙ c.clear_new.ensures.fetches
+
+pub returns-then-enough-clause-due : goal.returns-then-enough-clause-due
+returns-then-enough-clause-due g c = same-first c.put_object.result c.args.self.now.due c.clear_new.new.self.due c.put_object.new.self.due c.in-Ok.ensures.due c.put_object.ensures.due

@@ -1,3 +1,4 @@
+use Rattle.loom_memory.proofs.TimeLaws.{made-gone}
 use Rattle.std.proofs.Common.{◌≡◌, ℕ, IsTrue, ◌∙◌, sym, subst}
 use Rattle.purger.specs.Purge.{HasRoom}
 use Rattle.long_names.specs.Access.{Make, Nothing}
@@ -75,3 +76,6 @@ returns-in-Err-clause-sure g c = λ all. c.in-Err.ensures.sure all.room (subst (
 
 pub returns-in-Ok-clause-minds : goal.returns-in-Ok-clause-minds
 returns-in-Ok-clause-minds g c = minds-told c.make_here.result (IsTrue (g.H.Host.tells Work)) g.H.Host c.args.self.now c.ask.new.self c.make_here.new.self (λ k. (loom_told g.H.Host c.make_here.new.self).regs c.args.to ≡ Ref k) c.in-Ok.ensures.minds c.make_here.ensures.minds
+
+pub returns-in-Ok-clause-gone : goal.returns-in-Ok-clause-gone
+returns-in-Ok-clause-gone g c = made-gone c.make_here.result g.H.Host c.args.self.now c.ask.new.self c.make_here.new.self c.args.to c.args.class (making_of c.args.kind c.args.len c.args.header) _ (c.words_new.ensures.words ∙ making-words c.args.kind c.args.len c.args.header) c.in-Ok.ensures.thinned c.in-Ok.ensures.gone c.in-Ok.ensures.due c.make_here.ensures.made c.make_here.ensures.due

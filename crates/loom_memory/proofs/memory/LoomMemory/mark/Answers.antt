@@ -1,3 +1,4 @@
+use Rattle.loom_memory.proofs.TimeLaws.{keeps-on}
 use Rattle.std.proofs.Common.{Ok, ◌≡◌, [], Some, refl, sym, ◌∙◌, ap}
 use Rattle.long_names.specs.declared.value.Value.TheVariants.{Ref}
 use Rattle.long_names.specs.Access.{Mark, Nothing}
@@ -76,4 +77,4 @@ pub returns-in-Ok-clause-brings : goal.returns-in-Ok-clause-brings
 returns-in-Ok-clause-brings g c = brings-then c.args.self.now c.load.new.self c.note_mark.new.self _ c.load.ensures.brings c.note_mark.ensures.resting.idle.fetches
 
 pub returns-in-Ok-clause-gone : goal.returns-in-Ok-clause-gone
-returns-in-Ok-clause-gone g c = done-by {T = Unit {0}} (Ok tt) g.H.Host c.args.self.now c.load.new.self c.note_mark.new.self (name_at ((loom_told g.H.Host c.args.self.now).regs c.args.r)) (Mark c.args.r) c.in-Ok.ensures.thinned c.in-Ok.ensures.gone (λ told. ap (λ (t : Told). t.heap) c.note_mark.ensures.marked.same)
+returns-in-Ok-clause-gone g c = done-by {T = Unit {0}} (Ok tt) g.H.Host c.args.self.now c.load.new.self c.note_mark.new.self (name_at ((loom_told g.H.Host c.args.self.now).regs c.args.r)) (Mark c.args.r) c.in-Ok.ensures.thinned c.in-Ok.ensures.gone (λ told. ap (λ (t : Told). t.heap) c.note_mark.ensures.marked.same) c.note_mark.ensures.due (keeps-on c.args.self.now c.load.new.self c.note_mark.new.self c.in-Ok.ensures.gone.stays c.note_mark.ensures.flag)

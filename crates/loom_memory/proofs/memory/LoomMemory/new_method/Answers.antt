@@ -1,3 +1,4 @@
+use Rattle.loom_memory.specs.Freed.{IsFreedMaking}
 use Rattle.std.proofs.Common.{◌≡◌, ◌+◌, ◌<◌, ℤ, IsTrue, rules, subst}
 use Rattle.std.specs.Prelude.{IfErr, OnOk}
 use Rattle.std.specs.Int.{w16}
@@ -44,3 +45,9 @@ returns-clause-sure g c =
     let fits : SFits w16 c.args.header = search rules in
     let same = to_z-of_z w16 c.args.header fits in
     subst (λ z. IfErr c.make_kind.result (λ f. HasAllFor g.H.Host c.args.self.now (OfMethod z c.args.code) → ⊥)) (subst (λ (z : ℤ). IsSmallInteger z → int_of_short c.short_int.result ≡ z) same c.short_int.ensures.value c.requires.may.ranges.0) c.make_kind.ensures.sure
+
+pub returns-clause-gone : goal.returns-clause-gone
+returns-clause-gone g c =
+    let fits : SFits w16 c.args.header = search rules in
+    let same = to_z-of_z w16 c.args.header fits in
+    subst (λ z. OnOk c.make_kind.result (IsFreedMaking g.H.Host c.args.self.now c.make_kind.new.self c.args.to c.args.class (OfMethod z c.args.code))) (subst (λ (z : ℤ). IsSmallInteger z → int_of_short c.short_int.result ≡ z) same c.short_int.ensures.value c.requires.may.ranges.0) c.make_kind.ensures.gone

@@ -50,4 +50,4 @@ pub returns-in-Ok-clause-brings : goal.returns-in-Ok-clause-brings
 returns-in-Ok-clause-brings g c = brings-then c.args.self.now c.load.new.self c.unmark.new.self _ c.load.ensures.brings c.unmark.ensures.resting.idle.fetches
 
 pub returns-in-Ok-clause-freed : goal.returns-in-Ok-clause-freed
-returns-in-Ok-clause-freed g c = freed-open g.H.Host c.args.self.now c.load.new.self c.unmark.new.self (name_at ((loom_told g.H.Host c.args.self.now).regs c.args.of)) c.in-Ok.ensures.gone c.unmark.ensures.quiet
+returns-in-Ok-clause-freed g c = freed-open g.H.Host c.args.self.now c.load.new.self c.unmark.new.self (name_at ((loom_told g.H.Host c.args.self.now).regs c.args.of)) c.in-Ok.ensures.gone c.unmark.ensures.quiet c.unmark.ensures.due c.unmark.ensures.flag

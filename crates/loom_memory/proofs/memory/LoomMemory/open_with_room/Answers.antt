@@ -1,3 +1,4 @@
+use Rattle.loom_memory.proofs.FirstRoomLaws.{alive-quiet}
 use Rattle.std.proofs.Common.{◌≡◌, ℕ, List, sym, ◌∙◌, ap, arith}
 use Rattle.core_view.proofs.Core.{placed-used}
 use Rattle.leaf_lambda.specs.Parts.{core_of}
@@ -63,4 +64,7 @@ pub returns-in-Ok-clause-freed : goal.returns-in-Ok-clause-freed
 returns-in-Ok-clause-freed g c =
     let m = c.args.self.now in
     let u = c.load_with_room.new.self in
-    freed-open g.H.Host m u c.unmark.new.self (name_at ((loom_told g.H.Host c.args.self.now).regs c.args.of)) (freed-away g.H.Host m u c.args.of c.requires.sound c.requires.name c.in-Ok.ensures.gone) c.unmark.ensures.quiet
+    freed-open g.H.Host m u c.unmark.new.self (name_at ((loom_told g.H.Host c.args.self.now).regs c.args.of)) (freed-away g.H.Host m u c.args.of c.requires.sound c.requires.name c.in-Ok.ensures.gone c.in-Ok.ensures.due c.in-Ok.ensures.flag) c.unmark.ensures.quiet c.unmark.ensures.due c.unmark.ensures.flag
+
+pub returns-in-Ok-clause-entries : goal.returns-in-Ok-clause-entries
+returns-in-Ok-clause-entries g c = λ lacks due. alive-quiet (loom_told g.H.Host c.load_with_room.new.self) (loom_told g.H.Host c.unmark.new.self) c.unmark.ensures.quiet (c.in-Ok.ensures.entries lacks due)

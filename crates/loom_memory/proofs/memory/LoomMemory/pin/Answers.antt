@@ -1,3 +1,6 @@
+use Rattle.purger.specs.declared.room.Pinned.{Pinned}
+use Rattle.loom_memory.specs.Memory.{pin_in}
+use Rattle.loom_memory.proofs.TimeLaws.{stays-on}
 use Rattle.std.proofs.Common.{Ok, ◌≡◌, [], true, refl, sym, ◌∙◌, ap, subst}
 use Rattle.long_names.specs.Access.{Pin, Nothing}
 use Rattle.object_memory.specs.Told.{Told, IsReady}
@@ -59,4 +62,5 @@ pub returns-in-Ok-clause-brings : goal.returns-in-Ok-clause-brings
 returns-in-Ok-clause-brings g c = brings-then c.args.self.now c.load.new.self c.put_slot.new.self _ c.load.ensures.brings c.put_slot.ensures.steady.idle.fetches
 
 pub returns-in-Ok-clause-gone : goal.returns-in-Ok-clause-gone
-returns-in-Ok-clause-gone g c = done-by {T = Unit {0}} (Ok tt) g.H.Host c.args.self.now c.load.new.self c.put_slot.new.self (name_at ((loom_told g.H.Host c.args.self.now).regs c.args.r)) (Pin c.args.slot c.args.r) c.in-Ok.ensures.thinned c.in-Ok.ensures.gone (λ told. ap (λ (t : Told). t.heap) c.put_slot.ensures.told)
+returns-in-Ok-clause-gone g c = done-by {T = Unit {0}} (Ok tt) g.H.Host c.args.self.now c.load.new.self c.put_slot.new.self (name_at ((loom_told g.H.Host c.args.self.now).regs c.args.r)) (Pin c.args.slot c.args.r) c.in-Ok.ensures.thinned c.in-Ok.ensures.gone (λ told. ap (λ (t : Told). t.heap) c.put_slot.ensures.told) c.put_slot.ensures.due
+    (stays-on c.args.self.now c.load.new.self c.put_slot.new.self (pin_in c.args.self.now.pinned c.args.slot) (pin_in c.load.new.self.pinned c.args.slot) c.in-Ok.ensures.gone.stays (ap (λ (x : Pinned). pin_in x c.args.slot) c.in-Ok.ensures.pins) c.put_slot.ensures.stays)

@@ -1,3 +1,5 @@
+use Rattle.loom_memory.specs.Memory.{word_in}
+use Rattle.loom_memory.proofs.TimeLaws.{keeps-same, stays-on, word-same}
 use Rattle.std.proofs.Common.{[], ◌∙◌, ap}
 use Rattle.long_names.specs.State.{set_register}
 use Rattle.long_names.specs.declared.value.Value.{Value}
@@ -36,3 +38,9 @@ returns-in-Ok-clause-minds g c =
 
 pub returns-in-Ok-clause-brings : goal.returns-in-Ok-clause-brings
 returns-in-Ok-clause-brings g c = c.put_word.ensures.steady.idle.fetches ∙ c.entry_of.ensures.brings
+
+pub returns-in-Ok-clause-due : goal.returns-in-Ok-clause-due
+returns-in-Ok-clause-due g c = c.put_word.ensures.due ∙ c.in-Ok.ensures.due
+
+pub returns-in-Ok-clause-stays : goal.returns-in-Ok-clause-stays
+returns-in-Ok-clause-stays g c = stays-on c.args.self.now c.entry_of.new.self c.put_word.new.self (word_in c.args.self.now.regs c.args.to) (word_in c.entry_of.new.self.regs c.args.to) (keeps-same c.args.self.now c.entry_of.new.self c.in-Ok.ensures.flag) (word-same c.args.self.now c.entry_of.new.self c.args.to c.in-Ok.ensures.regs) c.put_word.ensures.stays

@@ -78,3 +78,6 @@ returns-in-Some-clause-minds g c =
 
 pub returns-in-None-clause-fetches : goal.returns-in-None-clause-fetches
 returns-in-None-clause-fetches g c = c.refuse.ensures.brings ∙ c.add_object.ensures.fetches
+
+pub returns-in-Some-clause-due : goal.returns-in-Some-clause-due
+returns-in-Some-clause-due g c = c.put_word.ensures.due ∙ c.add_object.ensures.due

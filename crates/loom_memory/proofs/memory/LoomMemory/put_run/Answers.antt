@@ -55,10 +55,10 @@ unfolding loom_outside
 returns-in-Err-clause-outside g c = put-outside g.H.Host c.args.self.now.disk.host.now c.write_to.new.self.host.now c.write_to.ensures.others c.write_to.ensures.other_faults
 
 pub returns-in-Ok-clause-speech : goal.returns-in-Ok-clause-speech
-returns-in-Ok-clause-speech g c = record { parts = refl; ledger = refl; work = c.write_to.ensures.work; writes = c.write_to.ensures.writes }
+returns-in-Ok-clause-speech g c = record { parts = refl; ledger = refl; due = refl; thinned = refl; work = c.write_to.ensures.work; writes = c.write_to.ensures.writes }
 
 pub returns-in-Err-clause-speech : goal.returns-in-Err-clause-speech
-returns-in-Err-clause-speech g c = record { parts = refl; ledger = refl; work = c.write_to.ensures.work; writes = c.write_to.ensures.writes }
+returns-in-Err-clause-speech g c = record { parts = refl; ledger = refl; due = refl; thinned = refl; work = c.write_to.ensures.work; writes = c.write_to.ensures.writes }
 
 pub returns-in-Ok-clause-brings : goal.returns-in-Ok-clause-brings
 unfolding fetched

@@ -79,3 +79,6 @@ unfolding loom_told
 returns-clause-steady g c =
     let m = c.args.self.now in
     steady-is g.H.Host m _ (swap-of g c).step (cache-same (core_of m.parts) (core_of c.drop_word.new.p) (found m.ledger.rows) m.ledger.mark m.ledger.begun c.requires.sound.kept.parts.core c.drop_word.ensures.parts.core (swap-of g c).marks c.requires.sound.kept.cached) refl refl refl
+
+pub returns-clause-stays : goal.returns-clause-stays
+returns-clause-stays g c = λ on named. c.note_gone.ensures.stays on (subst (λ (k : ℕ). is_short k ≡ true → IsNamedIn (core_of c.drop_word.new.p) k) (sym c.pin_at-old.ensures) named)

@@ -1,3 +1,5 @@
+use Rattle.std.proofs.Common.{refl}
+use Rattle.loom_memory.proofs.TimeLaws.{keeps-same, stays-on}
 use Rattle.std.proofs.Common.{◌≡◌, List, ℕ, [], sym, ◌∙◌, ap}
 use Rattle.long_names.specs.Access.{SetField}
 use Rattle.loom_host.specs.declared.outside.Role.TheVariants.{Work}
@@ -69,3 +71,12 @@ returns-clause-minds g c =
     let m = c.args.self.now in
     let u = c.unmark.new.self in
     minds-step g.H.Host m u c.exchange_field.new.self (λ k. k ≡ ((core_of m.parts).entries c.args.s.0).name) c.unmark.ensures.minds c.unmark.ensures.sound.kept.parts.core c.exchange_field.ensures.sound.kept.parts.core c.exchange_field.ensures.resting.remains c.exchange_field.ensures.none c.exchange_field.ensures.cached
+
+pub returns-then-word_of-w-clause-stays : goal.returns-then-word_of-w-clause-stays
+returns-then-word_of-w-clause-stays g c = λ on named. c.unmark.ensures.flag ∙ on
+
+pub returns-clause-stays : goal.returns-clause-stays
+returns-clause-stays g c = stays-on c.args.self.now c.unmark.new.self c.exchange_field.new.self c.args.w c.args.w (keeps-same c.args.self.now c.unmark.new.self c.unmark.ensures.flag) refl c.exchange_field.ensures.stays
+
+pub returns-clause-due : goal.returns-clause-due
+returns-clause-due g c = c.exchange_field.ensures.due ∙ c.unmark.ensures.due

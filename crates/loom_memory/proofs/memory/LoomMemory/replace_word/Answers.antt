@@ -1,3 +1,7 @@
+use Rattle.std.proofs.Common.{true, sym, subst}
+use Rattle.object_table.specs.Entries.{is_short}
+use Rattle.loom_memory.specs.Memory.{IsNamedIn}
+use Rattle.loom_memory.proofs.RegLaws.{word-is}
 use Rattle.std.proofs.Common.{◌≡◌, ℕ, [], Some, refl, ◌∙◌, ap, arith}
 use Rattle.std.specs.List.{slice_get, slice_index_or}
 use Rattle.long_names.specs.State.{set_register}
@@ -74,3 +78,8 @@ unfolding loom_told
 returns-clause-steady g c =
     let m = c.args.self.now in
     steady-is g.H.Host m _ (swap-of g c).step (cache-same (core_of m.parts) (core_of c.drop_word.new.p) (found m.ledger.rows) m.ledger.mark m.ledger.begun c.requires.sound.kept.parts.core c.drop_word.ensures.parts.core (swap-of g c).marks c.requires.sound.kept.cached) refl refl refl
+
+pub returns-clause-stays : goal.returns-clause-stays
+returns-clause-stays g c = λ on named.
+    let m = c.args.self.now in
+    c.note_gone.ensures.stays on (subst (λ (k : ℕ). is_short k ≡ true → IsNamedIn (core_of c.drop_word.new.p) k) (sym (word-is m.regs c.index.result c.args.to c.index.ensures.same c.index.ensures.within c.requires.sound.kept.many)) named)

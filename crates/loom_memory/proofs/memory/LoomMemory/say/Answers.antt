@@ -1,3 +1,4 @@
+use Rattle.loom_memory.proofs.TimeLaws.{speech-due, speech-keeps}
 use Rattle.std.proofs.Common.{◌≡◌, Some, None, refl, sym, ◌∙◌, ap}
 use Rattle.long_names.specs.Objects.{text_of}
 use Rattle.long_names.specs.Access.{Say, KindOf, Nothing}
@@ -102,3 +103,4 @@ returns-else-has_text-clause-brings g c = brings-then c.args.self.now c.load.new
 pub returns-then-has_text-clause-gone : goal.returns-then-has_text-clause-gone
 returns-then-has_text-clause-gone g c = done-by c.say_text.result g.H.Host c.args.self.now c.load.new.self c.say_text.new.self (name_at ((loom_told g.H.Host c.args.self.now).regs c.args.of)) (Say c.args.of) c.in-Ok.ensures.thinned c.in-Ok.ensures.gone
     (said-heap c.say_text.result g.H.Host c.load.new.self c.say_text.new.self c.args.of c.used_entry-e.result.len c.say_text.ensures.said)
+    (speech-due c.say_text.result g.H.Host c.load.new.self c.say_text.new.self c.say_text.ensures.speech) (speech-keeps c.say_text.result g.H.Host c.args.self.now c.load.new.self c.say_text.new.self c.in-Ok.ensures.gone.stays c.say_text.ensures.speech)

@@ -1,3 +1,9 @@
+use Rattle.loom_memory.proofs.TimeLaws.{stays-at, none-there, leaf-there}
+use Rattle.loom_memory.specs.Memory.{word_in}
+use Rattle.loom_memory.proofs.ReachLaws.{short-off}
+use Rattle.loom_memory.specs.Own.{IsAtHand}
+use Rattle.loom_memory.specs.Freed.{IsFreedShort}
+use Rattle.loom_memory.proofs.TimeLaws.{at-hand}
 use Rattle.std.proofs.Common.{◌≡◌, None, Ok, refl, ◌∙◌}
 use Rattle.leaf_lambda.specs.Parts.{core_of}
 use Rattle.long_names.specs.Access.{SetField}
@@ -76,4 +82,22 @@ pub returns-in-Some-word_in_body-clause-brings : goal.returns-in-Some-word_in_bo
 returns-in-Some-word_in_body-clause-brings g c = brings-none c.args.self.now c.replace_field.new.self _ c.replace_field.ensures.resting.idle.fetches
 
 pub returns-in-Some-word_in_body-clause-gone : goal.returns-in-Some-word_in_body-clause-gone
-returns-in-Some-word_in_body-clause-gone g c = done-here {T = Unit {0}} (Ok tt) g.H.Host c.args.self.now c.replace_field.new.self (name_at ((loom_told g.H.Host c.args.self.now).regs c.args.of)) (SetField c.args.of c.args.i c.args.from) c.in-Some.ensures.there
+returns-in-Some-word_in_body-clause-gone g c = done-here {T = Unit {0}} (Ok tt) g.H.Host c.args.self.now c.replace_field.new.self (name_at ((loom_told g.H.Host c.args.self.now).regs c.args.of)) (SetField c.args.of c.args.i c.args.from) c.in-Some.ensures.there c.replace_field.ensures.due tt
+
+pub returns-in-Some-word_in_body-clause-short : goal.returns-in-Some-word_in_body-clause-short
+returns-in-Some-word_in_body-clause-short g c = λ off. absurd (let at = c.in-Some-word_in_body.ensures.word in off (at-hand g.H.Host c.args.self.now c.args.of c.in-Some.s.0 c.args.i at.0 c.in-Some-word_in_body.w c.requires.fit.sound c.requires.may.names c.in-Some.ensures.word at.1 at.2))
+
+pub returns-in-None-word_in_body-clause-short : goal.returns-in-None-word_in_body-clause-short
+returns-in-None-word_in_body-clause-short g c = short-off (IsAtHand c.args.self.now (name_at ((loom_told g.H.Host c.args.self.now).regs c.args.of)) c.args.i → ⊥) (IsFreedShort g.H.Host c.args.self.now c.set_field_on_disk.new.self (SetField c.args.of c.args.i c.args.from)) c.set_field_on_disk.result c.set_field_on_disk.ensures.short
+
+pub returns-in-None-clause-short : goal.returns-in-None-clause-short
+returns-in-None-clause-short g c = short-off (IsAtHand c.args.self.now (name_at ((loom_told g.H.Host c.args.self.now).regs c.args.of)) c.args.i → ⊥) (IsFreedShort g.H.Host c.args.self.now c.set_field_on_disk-in-None.new.self (SetField c.args.of c.args.i c.args.from)) c.set_field_on_disk-in-None.result c.set_field_on_disk-in-None.ensures.short
+
+pub returns-in-Some-word_in_body-clause-stays : goal.returns-in-Some-word_in_body-clause-stays
+returns-in-Some-word_in_body-clause-stays g c = let at = c.in-Some-word_in_body.ensures.word in stays-at c.args.self.now c.replace_field.new.self (word_in c.args.self.now.regs c.args.of) c.in-Some.s.0 c.args.i at.0 c.in-Some-word_in_body.w c.in-Some.ensures.word at.1 c.replace_field.ensures.stays
+
+pub returns-in-None-word_in_body-clause-stays : goal.returns-in-None-word_in_body-clause-stays
+returns-in-None-word_in_body-clause-stays g c = none-there c.set_field_on_disk.result c.args.self.now c.set_field_on_disk.new.self (word_in c.args.self.now.regs c.args.of) c.in-Some.s.0 c.args.i c.in-Some.ensures.word c.in-None-word_in_body.ensures.none
+
+pub returns-in-None-clause-stays : goal.returns-in-None-clause-stays
+returns-in-None-clause-stays g c = leaf-there c.set_field_on_disk-in-None.result c.args.self.now c.set_field_on_disk-in-None.new.self (word_in c.args.self.now.regs c.args.of) c.args.i c.in-None.ensures.leaf

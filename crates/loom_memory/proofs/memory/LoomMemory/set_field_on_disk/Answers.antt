@@ -1,3 +1,4 @@
+use Rattle.loom_memory.proofs.ReachLaws.{done-short, stored-stays}
 use Rattle.std.proofs.Common.{◌≡◌, refl, ◌∙◌}
 use Rattle.long_names.specs.Access.{SetField, Nothing}
 use Rattle.loom_memory.specs.Memory.{loom_told}
@@ -59,4 +60,7 @@ pub returns-in-Ok-clause-brings : goal.returns-in-Ok-clause-brings
 returns-in-Ok-clause-brings g c = brings-then c.args.self.now c.open_with_room.new.self c.store_field.new.self _ c.open_with_room.ensures.brings c.store_field.ensures.brings
 
 pub returns-in-Ok-clause-gone : goal.returns-in-Ok-clause-gone
-returns-in-Ok-clause-gone g c = done-by c.store_field.result g.H.Host c.args.self.now c.open_with_room.new.self c.store_field.new.self (name_at ((loom_told g.H.Host c.args.self.now).regs c.args.of)) (SetField c.args.of c.args.i c.args.from) c.in-Ok.ensures.thinned c.in-Ok.ensures.freed (stored-heap c.store_field.result g.H.Host c.open_with_room.new.self c.store_field.new.self (SetField c.args.of c.args.i c.args.from) c.store_field.ensures.stored)
+returns-in-Ok-clause-gone g c = done-by c.store_field.result g.H.Host c.args.self.now c.open_with_room.new.self c.store_field.new.self (name_at ((loom_told g.H.Host c.args.self.now).regs c.args.of)) (SetField c.args.of c.args.i c.args.from) c.in-Ok.ensures.thinned c.in-Ok.ensures.freed (stored-heap c.store_field.result g.H.Host c.open_with_room.new.self c.store_field.new.self (SetField c.args.of c.args.i c.args.from) c.store_field.ensures.stored) c.store_field.ensures.due (stored-stays c.store_field.result)
+
+pub returns-in-Ok-clause-short : goal.returns-in-Ok-clause-short
+returns-in-Ok-clause-short g c = done-short c.store_field.result g.H.Host c.args.self.now c.open_with_room.new.self c.store_field.new.self (SetField c.args.of c.args.i c.args.from) c.in-Ok.ensures.thinned c.in-Ok.ensures.entries (stored-heap c.store_field.result g.H.Host c.open_with_room.new.self c.store_field.new.self (SetField c.args.of c.args.i c.args.from) c.store_field.ensures.stored)

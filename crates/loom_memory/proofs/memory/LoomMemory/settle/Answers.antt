@@ -1,3 +1,5 @@
+use Rattle.std.proofs.Common.{◌∙◌}
+use Rattle.loom_memory.proofs.TimeLaws.{time-same}
 use Rattle.std.proofs.Common.{◌≡◌, None, Ok, refl, sym, ap, subst, inl, arith, true}
 use Rattle.loom_host.specs.declared.outside.Role.TheVariants.{Work}
 use Rattle.disk_objects.specs.Disk.{disk_room}
@@ -86,3 +88,9 @@ returns-then-is_settled-clause-thins g c = λ less. absurd (let enough = (c.is_s
 
 pub returns-then-is_settled-clause-lasts : goal.returns-then-is_settled-clause-lasts
 returns-then-is_settled-clause-lasts g c = λ less. absurd (let enough = (c.is_settled.ensures.yes c.if-is_settled.true).0 in omega (arith, less, enough))
+
+pub returns-then-is_settled-clause-due : goal.returns-then-is_settled-clause-due
+returns-then-is_settled-clause-due g c = time-same g.H.Host c.args.self.now c.count_anew.new.self (ap (λ m. m.due) c.count_anew.ensures.same)
+
+pub returns-then-is_settled-clause-flag : goal.returns-then-is_settled-clause-flag
+returns-then-is_settled-clause-flag g c = λ on. ap (λ m. m.thinned) c.count_anew.ensures.same ∙ on

@@ -1,3 +1,5 @@
+use Rattle.loom_memory.proofs.TimeLaws.{time-anew, time-alive}
+use Rattle.std.proofs.Common.{Ok}
 use Rattle.std.proofs.Common.{Some, ◌∙◌, ap, arith}
 use Rattle.leaf_lambda.specs.declared.parts.Parts.{Parts}
 use Rattle.leaf_lambda.specs.Parts.{spare_of}
@@ -76,3 +78,10 @@ returns-then-self-room-clause-thins g c = λ less. absurd (let room = c.if-self-
 
 pub returns-then-self-room-clause-lasts : goal.returns-then-self-room-clause-lasts
 returns-then-self-room-clause-lasts g c = λ less. absurd (let room = c.if-self-room.true in let is = c.room-room.ensures in omega (arith, less, room, is))
+
+pub returns-in-Ok-clause-due : goal.returns-in-Ok-clause-due
+returns-in-Ok-clause-due g c = time-anew g.H.Host c.args.self.now c.thin_once.new.self c.count_anew.new.self (Some c.thin_once.new.self.ledger.held) (time-alive {T = Unit {0}} (Ok tt) g.H.Host c.args.self.now c.thin_once.new.self c.in-Ok.ensures.again) (ap (λ m. m.due) c.count_anew.ensures.same) c.count_anew.ensures.begun
+
+pub returns-in-Ok-clause-flag : goal.returns-in-Ok-clause-flag
+unfolding is_thinned
+returns-in-Ok-clause-flag g c = λ on. ap (λ m. m.thinned) c.count_anew.ensures.same ∙ c.in-Ok.ensures.set

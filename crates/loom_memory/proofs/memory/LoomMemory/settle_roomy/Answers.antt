@@ -1,3 +1,5 @@
+use Rattle.std.proofs.Common.{Ok}
+use Rattle.loom_memory.proofs.TimeLaws.{time-anew, keeps-last}
 use Rattle.std.proofs.Common.{None, ◌∙◌, ap, arith}
 use Rattle.disk_objects.specs.Disk.{disk_room}
 use Rattle.leaf_lambda.specs.declared.parts.Parts.{Parts}
@@ -44,3 +46,9 @@ returns-in-Ok-clause-outside g c = ap (λ d. (λ r. others_of (g.H.Host.tells Wo
 
 pub returns-in-Ok-clause-gone : goal.returns-in-Ok-clause-gone
 returns-in-Ok-clause-gone g c = λ lacks due. alive-anew (loom_told g.H.Host c.free_first.new.self) (loom_told g.H.Host c.count_anew.new.self) None c.count_anew.ensures.begun (c.in-Ok.ensures.gone lacks due)
+
+pub returns-in-Ok-clause-due : goal.returns-in-Ok-clause-due
+returns-in-Ok-clause-due g c = time-anew g.H.Host c.args.self.now c.free_first.new.self c.count_anew.new.self None c.in-Ok.ensures.due (ap (λ m. m.due) c.count_anew.ensures.same) c.count_anew.ensures.begun
+
+pub returns-in-Ok-clause-flag : goal.returns-in-Ok-clause-flag
+returns-in-Ok-clause-flag g c = keeps-last {T = Unit {0}} (Ok tt) c.args.self.now c.free_first.new.self c.count_anew.new.self c.free_first.ensures.lasts (ap (λ m. m.thinned) c.count_anew.ensures.same)

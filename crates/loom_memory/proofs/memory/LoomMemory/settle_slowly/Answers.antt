@@ -1,3 +1,4 @@
+use Rattle.loom_memory.proofs.TimeLaws.{time-calm, keeps-then}
 use Rattle.std.proofs.Common.{IsTrue, ◌∙◌}
 use Rattle.loom_host.specs.declared.outside.Role.TheVariants.{Work}
 use Rattle.loom_memory.specs.Memory.{loom_told}
@@ -44,3 +45,9 @@ returns-in-Ok-clause-lasts g c = λ full on enough. lasted-last c.spare_entries.
 
 pub returns-in-Err-clause-lasts : goal.returns-in-Err-clause-lasts
 returns-in-Err-clause-lasts g c = λ full on enough. c.in-Err.ensures.lasts full on
+
+pub returns-in-Ok-clause-due : goal.returns-in-Ok-clause-due
+returns-in-Ok-clause-due g c = time-calm c.spare_entries.result g.H.Host c.args.self.now c.settle_disk.new.self c.spare_entries.new.self c.in-Ok.ensures.due c.spare_entries.ensures.due c.spare_entries.ensures.quiet
+
+pub returns-in-Ok-clause-flag : goal.returns-in-Ok-clause-flag
+returns-in-Ok-clause-flag g c = keeps-then c.spare_entries.result c.args.self.now c.settle_disk.new.self c.spare_entries.new.self c.in-Ok.ensures.flag c.spare_entries.ensures.flag

@@ -96,3 +96,6 @@ returns-in-Ok-clause-brings g c = c.exchange_field.ensures.resting.idle.fetches 
 
 pub returns-clause-brings : goal.returns-clause-brings
 returns-clause-brings g c = c.exchange_field-2.ensures.resting.idle.fetches
+
+pub returns-in-Ok-clause-due : goal.returns-in-Ok-clause-due
+returns-in-Ok-clause-due g c = c.exchange_field.ensures.due ∙ c.in-Ok.ensures.due

@@ -1,3 +1,4 @@
+use Rattle.loom_memory.proofs.FirstRoomLaws.{same-first}
 use Rattle.std.proofs.Common.{subst, sym, refl, ◌∙◌}
 use Rattle.long_names.specs.State.{IsRef, name_at}
 use Rattle.long_names.specs.Access.{Swap, Nothing, IsUnpinned}
@@ -68,3 +69,6 @@ returns-in-Ok-put_away-clause-cached g c =
 
 pub returns-in-Ok-put_away-clause-minds : goal.returns-in-Ok-put_away-clause-minds
 returns-in-Ok-put_away-clause-minds g c = minds-swapped c.exchange.result g.H.Host c.args.self.now c.put_away.new.self c.put_away-in-Ok.new.self c.exchange.new.self c.in-Ok.ensures.minds c.in-Ok-put_away.ensures.minds c.exchange.ensures.parts c.exchange.ensures.cached
+
+pub returns-in-Ok-put_away-clause-due : goal.returns-in-Ok-put_away-clause-due
+returns-in-Ok-put_away-clause-due g c = same-first c.exchange.result c.args.self.now.due c.put_away-in-Ok.new.self.due c.exchange.new.self.due (c.in-Ok-put_away.ensures.due ∙ c.in-Ok.ensures.due) c.exchange.ensures.due

@@ -1,3 +1,5 @@
+use Rattle.loom_memory.specs.Memory.{word_in}
+use Rattle.loom_memory.proofs.TimeLaws.{keeps-same, stays-on, word-same}
 use Rattle.std.proofs.Common.{[], refl}
 use Rattle.long_names.specs.Access.{Field}
 use Rattle.core_view.specs.Words.{meant}
@@ -24,3 +26,9 @@ returns-in-Ok-clause-peek g c = peek-trans g.H.Host c.args.self.now c.lambda_wor
 
 pub returns-in-Ok-clause-brings : goal.returns-in-Ok-clause-brings
 returns-in-Ok-clause-brings g c = c.put_word.ensures.steady.idle.fetches ∙ c.lambda_word.ensures.brings
+
+pub returns-in-Ok-clause-stays : goal.returns-in-Ok-clause-stays
+returns-in-Ok-clause-stays g c = stays-on c.args.self.now c.lambda_word.new.self c.put_word.new.self (word_in c.args.self.now.regs c.args.to) (word_in c.lambda_word.new.self.regs c.args.to) (keeps-same c.args.self.now c.lambda_word.new.self c.in-Ok.ensures.flag) (word-same c.args.self.now c.lambda_word.new.self c.args.to c.in-Ok.ensures.regs) c.put_word.ensures.stays
+
+pub returns-in-Ok-clause-due : goal.returns-in-Ok-clause-due
+returns-in-Ok-clause-due g c = c.put_word.ensures.due ∙ c.in-Ok.ensures.due

@@ -1,3 +1,4 @@
+use Rattle.loom_memory.proofs.TimeLaws.{keeps-then}
 use Rattle.std.proofs.Common.{◌≡◌, refl, ◌∙◌}
 use Rattle.long_names.specs.Access.{WriteWords, Nothing}
 use Rattle.loom_memory.specs.Memory.{loom_told}
@@ -61,3 +62,4 @@ returns-in-Ok-clause-brings g c = brings-then c.args.self.now c.open.new.self c.
 
 pub returns-in-Ok-clause-gone : goal.returns-in-Ok-clause-gone
 returns-in-Ok-clause-gone g c = done-by c.store_words.result g.H.Host c.args.self.now c.open.new.self c.store_words.new.self (name_at ((loom_told g.H.Host c.args.self.now).regs c.args.of)) (WriteWords c.args.of c.args.at c.args.from.now) c.in-Ok.ensures.thinned c.in-Ok.ensures.freed (stored-heap c.store_words.result g.H.Host c.open.new.self c.store_words.new.self (WriteWords c.args.of c.args.at c.args.from.now) c.store_words.ensures.stored)
+    c.store_words.ensures.due (keeps-then c.store_words.result c.args.self.now c.open.new.self c.store_words.new.self c.in-Ok.ensures.freed.stays c.store_words.ensures.flag)
