@@ -1,7 +1,7 @@
 -- A vault where nothing stands but maybe at the bytes of the gates: no stop leaves a checkpoint.
-use Rattle.std.proofs.Common.{◌≡◌, ◌≢◌, ◌⊎◌, inl, inr, ℕ, ◌+◌, ◌-◌, ◌<◌, ◌≤◌, List, [], ◌∷◌, get_or, None, true, Result, Ok, Err, is_ok, OnOk, ap, ◌∙◌, arith}
+use Rattle.std.proofs.Common.{◌≡◌, ◌≢◌, ◌⊎◌, inl, inr, ℕ, ◌+◌, ◌-◌, ◌<◌, ◌≤◌, max, List, [], ◌∷◌, length, get_or, None, true, Result, Ok, Err, is_ok, OnOk, sym, ap, subst, ◌∙◌, arith}
 use Rattle.std.proofs.lemmas.Bool.{false≢true}
-use Rattle.loom_host.proofs.Windows.{get_or-overwritten, byte_after_inside}
+use Rattle.loom_host.proofs.Windows.{get_or-overwritten, byte_after_inside, length-overwritten}
 use Rattle.checkpoint.specs.Layout.{found, gate_in}
 use Rattle.checkpoint.specs.Vault.{VaultState, Extends, IsEmpty, IsSynced, IsWritten, MayLeave, Throughout, contents_of}
 use Rattle.checkpoint.specs.declared.layout.TheConstants.{GATE_GAP}
@@ -71,6 +71,12 @@ zero-written (Err e) place old new w ok = absurd (false≢true ok)
 not_open : (byte : ℕ) → byte ≡ 0 → byte ≢ 1
 not_open byte zero one = omega arith
 
+reaches-written : {T E : Type 0} (r : Result T E) (place : ℕ) (old new : VaultState) → IsWritten place (0 ∷ []) r old new → is_ok r ≡ true → place < length (contents_of new)
+reaches-written {T = T} {E = E} (Ok x) place old new w ok =
+    let long : length (contents_of new) ≡ max (length (contents_of old)) (place + 1) = ap length (contents-written {T = T} {E = E} (Ok x) place (0 ∷ []) old new w) ∙ length-overwritten (contents_of old) place (0 ∷ []) in
+    omega (arith, long)
+reaches-written (Err e) place old new w ok = absurd (false≢true ok)
+
 -- The calls of `fresh`, where both writes answered Ok.
 module _ {T E R S : Type 0} (p q : Result T E) (r : Result R S) (a b c d : VaultState) (first : IsWritten 0 (0 ∷ []) p a b) (one : is_ok p ≡ true)
     (second : IsWritten GATE_GAP (0 ∷ []) q b c) (two : is_ok q ≡ true) (sync : IsSynced r c d) where
@@ -79,6 +85,9 @@ module _ {T E R S : Type 0} (p q : Result T E) (r : Result R S) (a b c d : Vault
 
   pub second-zero : get_or (contents_of d) GATE_GAP 0 ≡ 0
   second-zero = ap (λ (l : List ℕ). get_or l GATE_GAP 0) same-synced ∙ zero-written {T = T} {E = E} q GATE_GAP b c second two
+
+  pub second-stands : GATE_GAP < length (contents_of d)
+  second-stands = subst (λ (l : List ℕ). GATE_GAP < length l) (sym same-synced) (reaches-written {T = T} {E = E} q GATE_GAP b c second two)
 
   pub first-zero : get_or (contents_of d) 0 0 ≡ 0
   first-zero =

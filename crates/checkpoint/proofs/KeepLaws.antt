@@ -1,17 +1,20 @@
 -- What stands in a vault while the next checkpoint is written beside the last one. Throughout, n is the serial of the next one and s its parity.
-use Rattle.std.proofs.Common.{◌≡◌, ◌≢◌, ◌⊎◌, inl, inr, ℕ, zero, suc, ◌+◌, ◌-◌, ◌*◌, ◌%◌, ◌<◌, ◌≤◌, Bool, true, false, cond, List, [], get_or, Option, None, Some, refl, sym, ap, ap₂, ◌∙◌, subst, arith}
+use Rattle.std.proofs.Common.{◌≡◌, ◌≢◌, ◌⊎◌, inl, inr, ℕ, zero, suc, ◌+◌, ◌-◌, ◌*◌, ◌%◌, ◌<◌, ◌≤◌, Bool, true, false, cond, List, [], length, get_or, Option, None, Some, refl, sym, ap, ap₂, ◌∙◌, subst, arith}
 use Rattle.std.specs.Prelude.{IfSome, nat_lt}
 use Rattle.std.proofs.lemmas.Bool.Decides.{nat_tests}
+use Rattle.checkpoint.specs.Faults.{IsFailed, LeavesLast}
 use Rattle.checkpoint.specs.Inside.{HasHead}
 use Rattle.checkpoint.specs.Keeping.{HasEither, HasNext, HasSame, IsLast, serial_of}
 use Rattle.checkpoint.specs.Layout.{bad_place, found, gate_in, image_in, image_place, is_bad, is_open, later_of, point_of}
 use Rattle.checkpoint.specs.Sparing.{IsApart, IsAreaPlace, IsButByte, IsGatePlace, Spares, Sure}
 use Rattle.checkpoint.specs.Vault.{VaultState, MayLeave, Throughout, contents_of, unsynced_of}
+use Rattle.checkpoint.specs.declared.fault.VaultFault.{VaultFault}
+use Rattle.checkpoint.specs.declared.fault.VaultFault.TheVariants as fault
 use Rattle.checkpoint.specs.declared.layout.Gate.{Gate}
 use Rattle.checkpoint.specs.declared.layout.TheConstants.{GATE_GAP, LEAST_LENGTH, LENGTH_AT, MOST_LENGTH, SERIAL_AT, SERIAL_END}
 use Rattle.checkpoint.specs.declared.point.Point.{Point}
 use Rattle.checkpoint.proofs.LayoutLaws.{area_in-same, closed-byte, gate-same, number-same, place-behind, point-closed, whole-closed}
-use Rattle.checkpoint.proofs.MomentLaws.{throughout-gives, throughout-still, throughout-then}
+use Rattle.checkpoint.proofs.MomentLaws.{moment-all, throughout-gives, throughout-still, throughout-then}
 use Rattle.checkpoint.proofs.SureLaws.{sure-left, sure-part, sure-synced_all}
 
 -- ---- two gates
@@ -440,3 +443,28 @@ module _ (a : VaultState) (last : Option Point) (is : IsLast a last) (n s : ℕ)
 
   pub all-text : (b c d : VaultState) (p : Point) → HasClosed b → HasWritten b c p → Spares (IsButByte s) c d → IsText (image_in (contents_of d) p)
   all-text b c d p closed written spares = opening-text c d p (written-whole b c p closed written) spares
+
+-- ---- a refusal that isn't a failure of the vault
+
+same-only : (old bytes : List ℕ) (n : ℕ) → HasEither old n (λ text. ⊥) bytes → HasSame old bytes
+same-only old bytes n (inl same) = same
+same-only old bytes n (inr next) = absurd next.text
+
+-- where no stop can leave a next one
+pub leaves-last : (a c : VaultState) (n : ℕ) (f : VaultFault) → Throughout a c (HasEither (contents_of a) n (λ text. ⊥)) → LeavesLast a c f
+leaves-last a c n f stops = go f
+  where
+    left : (bytes : List ℕ) → MayLeave c bytes → HasSame (contents_of a) bytes
+    left bytes may = same-only (contents_of a) bytes n (stops (length a.calls + length c.calls) (omega arith) bytes (subst (λ (s : VaultState). MayLeave s bytes) (sym (moment-all (length a.calls + length c.calls) c (omega arith))) may))
+
+    go : (f : VaultFault) → LeavesLast a c f
+    go (fault.Failed count) = tt
+    go (fault.Bad place) = tt
+    go (fault.Disk f) = left
+    go fault.Memory = left
+
+pub failed-leaves : (before now : ℕ) (a c : VaultState) (f : VaultFault) → IsFailed before now f → LeavesLast a c f
+failed-leaves before now a c (fault.Failed count) h = tt
+failed-leaves before now a c (fault.Bad place) h = absurd h
+failed-leaves before now a c (fault.Disk f) h = absurd h
+failed-leaves before now a c fault.Memory h = absurd h

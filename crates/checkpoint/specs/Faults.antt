@@ -6,7 +6,8 @@ use Rattle.disk_objects.specs.declared.names.NamesFault.{NamesFault}
 use Rattle.disk_objects.specs.declared.names.NamesFault.TheVariants as names
 use Rattle.image_writer.specs.Puts.{IsDiskFault}
 use Rattle.checkpoint.specs.Layout.{bad_place}
-use Rattle.checkpoint.specs.Vault.{VaultState, unsynced_of}
+use Rattle.checkpoint.specs.Keeping.{HasSame}
+use Rattle.checkpoint.specs.Vault.{MayLeave, VaultState, contents_of, unsynced_of}
 use Rattle.checkpoint.specs.declared.fault.VaultFault.{VaultFault}
 use Rattle.checkpoint.specs.declared.fault.VaultFault.TheVariants as fault
 
@@ -49,3 +50,10 @@ IsKeepFault host old new before now fault.Memory = Unit {0}
 abbrev pub fault_of_names : NamesFault → VaultFault
 fault_of_names (names.Disk f) = fault.Disk f
 fault_of_names names.Memory = fault.Memory
+
+-- A refusal of keeping that isn't a failure of the vault leaves its last checkpoint: a stop then leaves that one, whole, and no other.
+abbrev pub LeavesLast : VaultState → VaultState → VaultFault → Type 0
+LeavesLast old new (fault.Failed count) = Unit {0}
+LeavesLast old new (fault.Bad place) = Unit {0}
+LeavesLast old new (fault.Disk fault) = (bytes : List ℕ) → MayLeave new bytes → HasSame (contents_of old) bytes
+LeavesLast old new fault.Memory = (bytes : List ℕ) → MayLeave new bytes → HasSame (contents_of old) bytes

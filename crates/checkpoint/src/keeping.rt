@@ -8,7 +8,7 @@ ghost use Rattle.loom_host.specs.Work.{IsWorkRead};
 ghost use Rattle.loom_host.specs.declared.outside.Role.{Role};
 ghost use Rattle.work_directory.specs.declared.limits.TheConstants.{MOST_NAMES};
 ghost use Rattle.checkpoint.specs.Area.{IsBegun};
-ghost use Rattle.checkpoint.specs.Faults.{IsKeepFault};
+ghost use Rattle.checkpoint.specs.Faults.{IsKeepFault, LeavesLast};
 ghost use Rattle.checkpoint.specs.Inside.{HasHead, HoldsNamed, image_text};
 ghost use Rattle.checkpoint.specs.Keeping.{HasEither, IsLast, serial_of};
 ghost use Rattle.checkpoint.specs.Layout.{IsPoint, image_in};
@@ -99,6 +99,7 @@ fn write_next<H: Host, V: Vault>(
     ensures stops { (h : Heap) → HoldsNamed H.Host disk.old.host.now disk.old.rest names.now h → IsTrue V.tells →
         Throughout (V.state vault.old) (V.state vault.new) (HasEither (contents_of (V.state vault.old)) (serial_of last + 1)
         (λ text. IsTrue (H.tells Role.Work) → text ≡ image_text (disk_held disk.old.rest) next kept.now names.now h)) }
+    ensures left { IsTrue V.tells → IfErr result (LeavesLast (V.state vault.old) (V.state vault.new)) }
     ensures extends { IsTrue V.tells → Extends (V.state vault.old) (V.state vault.new) }
     ensures read { IsWorkRead H.Host disk.old.host.now disk.new.host.now }
     ensures rest { disk.new.rest ≡ disk.old.rest }
@@ -139,6 +140,7 @@ pub fn keep<H: Host, V: Vault>(
         image_in (contents_of (V.state vault.new)) point ≡ saved_text (disk_heap H.Host disk.old.host.now disk.old.rest next) state.now) }
     ensures stops { IsTrue V.tells → Throughout (V.state vault.old) (V.state vault.new) (HasEither (contents_of (V.state vault.old)) (serial_of last + 1)
         (λ text. IsTrue (H.tells Role.Work) → text ≡ saved_text (disk_heap H.Host disk.old.host.now disk.old.rest next) state.now)) }
+    ensures left { IsTrue V.tells → IfErr result (LeavesLast (V.state vault.old) (V.state vault.new)) }
     ensures extends { IsTrue V.tells → Extends (V.state vault.old) (V.state vault.new) }
     ensures read { IsWorkRead H.Host disk.old.host.now disk.new.host.now }
     ensures rest { disk.new.rest ≡ disk.old.rest }

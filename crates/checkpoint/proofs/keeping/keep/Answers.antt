@@ -10,7 +10,7 @@ use Rattle.checkpoint.specs.Keeping.{serial_of}
 use Rattle.checkpoint.specs.Vault.{contents_of}
 use Rattle.checkpoint.specs.declared.fault.VaultFault.TheVariants as fault
 use Rattle.checkpoint.proofs.KeepDisk.{keep-fault-later, names-fault, read-few, read-named, read-stands, read-text, stops-text}
-use Rattle.checkpoint.proofs.KeepLaws.{still-stops}
+use Rattle.checkpoint.proofs.KeepLaws.{leaves-last, still-stops}
 use Rattle.checkpoint.proofs.MomentLaws.{extends-still}
 use Rattle.checkpoint.proofs.keeping.keep.Goals as goal
 
@@ -162,3 +162,23 @@ returns-clause-fault g c =
     c.args.disk.now.rest c.names.new.self.rest c.kept_state.new.disk.rest c.args.next c.args.state.now c.in_ok-kept.kept c.in_ok-names.names
     c.requires.stands c.requires.exact c.names.ensures.read c.kept_state.ensures.read c.names.ensures.rest c.kept_state.ensures.rest
     c.in_ok-names.ensures.names c.in_ok-kept.ensures.state))
+
+-- ---- what a refusal leaves
+
+pub returns-in_err-names-clause-left : goal.returns-in_err-names-clause-left
+returns-in_err-names-clause-left g c told =
+    let p = err_from_is_err_and c.from_residual.result c.from_residual.ensures.1 in
+    rw p.1 (leaves-last (g.V.Vault.state c.args.vault.now) (g.V.Vault.state c.args.vault.now) (serial_of c.args.last + 1) _
+    (still-stops (g.V.Vault.state c.args.vault.now) c.args.last (c.requires.last told) (serial_of c.args.last + 1) ((serial_of c.args.last + 1) % 2) refl refl (λ text. ⊥)))
+
+pub returns-in_err-buf-clause-left : goal.returns-in_err-buf-clause-left
+returns-in_err-buf-clause-left g c told =
+    let p = err_from_is_err_and c.from_residual-in_err-buf.result c.from_residual-in_err-buf.ensures.1 in
+    rw p.1 (leaves-last (g.V.Vault.state c.args.vault.now) (g.V.Vault.state c.args.vault.now) (serial_of c.args.last + 1) _
+    (still-stops (g.V.Vault.state c.args.vault.now) c.args.last (c.requires.last told) (serial_of c.args.last + 1) ((serial_of c.args.last + 1) % 2) refl refl (λ text. ⊥)))
+
+pub returns-in_err-kept-clause-left : goal.returns-in_err-kept-clause-left
+returns-in_err-kept-clause-left g c told =
+    let p = err_from_is_err_and c.from_residual-in_err-kept.result c.from_residual-in_err-kept.ensures.1 in
+    rw p.1 (leaves-last (g.V.Vault.state c.args.vault.now) (g.V.Vault.state c.args.vault.now) (serial_of c.args.last + 1) _
+    (still-stops (g.V.Vault.state c.args.vault.now) c.args.last (c.requires.last told) (serial_of c.args.last + 1) ((serial_of c.args.last + 1) % 2) refl refl (λ text. ⊥)))

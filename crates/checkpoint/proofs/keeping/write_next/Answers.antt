@@ -5,7 +5,7 @@ use Rattle.disk_objects.specs.Disk.{disk_held}
 use Rattle.checkpoint.specs.Inside.{image_text}
 use Rattle.checkpoint.specs.Keeping.{serial_of}
 use Rattle.checkpoint.proofs.KeepDisk.{keep-fault-before}
-use Rattle.checkpoint.proofs.KeepLaws.{all-last, all-stops, all-text, closing-stops, still-stops, written-stops}
+use Rattle.checkpoint.proofs.KeepLaws.{all-last, all-stops, all-text, closing-stops, failed-leaves, leaves-last, still-stops, written-stops}
 use Rattle.checkpoint.proofs.keeping.write_next.Goals as goal
 
 pub returns-in_err-area-clause-stops : goal.returns-in_err-area-clause-stops
@@ -149,3 +149,36 @@ returns-clause-stops g c h named told =
       text = c.in_ok-point.ensures.text h named told;
     })
     (c.in_ok-open_gate.ensures.spares told)
+
+-- ---- what a refusal leaves
+
+pub returns-in_err-area-clause-left : goal.returns-in_err-area-clause-left
+returns-in_err-area-clause-left g c told =
+    let p = err_from_is_err_and c.from_residual.result c.from_residual.ensures.1 in
+    rw p.1 (leaves-last (g.V.Vault.state c.args.vault.now) (g.V.Vault.state c.args.vault.now) (serial_of c.args.last + 1) _
+    (still-stops (g.V.Vault.state c.args.vault.now) c.args.last (c.requires.last told) (serial_of c.args.last + 1) ((serial_of c.args.last + 1) % 2) refl refl (λ text. ⊥)))
+
+pub returns-in_err-close_gate-clause-left : goal.returns-in_err-close_gate-clause-left
+returns-in_err-close_gate-clause-left g c told =
+    let p = err_from_is_err_and c.from_residual-in_err-close_gate.result c.from_residual-in_err-close_gate.ensures.1 in
+    rw (p.1, p.2) (failed-leaves _ _ (g.V.Vault.state c.args.vault.now) (g.V.Vault.state c.close_gate.new.vault) c.in_err-close_gate.field-0.0 c.in_err-close_gate.ensures.fault)
+
+pub returns-in_err-point-clause-left : goal.returns-in_err-point-clause-left
+returns-in_err-point-clause-left g c told =
+    let p = err_from_is_err_and c.from_residual-in_err-point.result c.from_residual-in_err-point.ensures.1 in
+    rw p.1 (leaves-last (g.V.Vault.state c.args.vault.now) (g.V.Vault.state c.write_beside.new.vault) (serial_of c.args.last + 1) _
+    (written-stops (g.V.Vault.state c.args.vault.now) c.args.last (c.requires.last told) (serial_of c.args.last + 1) (c.next_serial-serial.result % 2) refl
+    (ap (λ (m : ℕ). m % 2) c.next_serial-serial.ensures) (λ text. ⊥)
+    (g.V.Vault.state c.close_gate.new.vault) (g.V.Vault.state c.write_beside.new.vault)
+    (record {
+      spares = c.in_ok-close_gate.ensures.spares told;
+      left = c.in_ok-close_gate.ensures.left told;
+      closed = c.in_ok-close_gate.ensures.closed told;
+      synced = c.in_ok-close_gate.ensures.synced told;
+    })
+    (c.in_err-point.ensures.spares told)))
+
+pub returns-in_err-open_gate-clause-left : goal.returns-in_err-open_gate-clause-left
+returns-in_err-open_gate-clause-left g c told =
+    let p = err_from_is_err_and c.from_residual-in_err-open_gate.result c.from_residual-in_err-open_gate.ensures.1 in
+    rw (p.1, p.2) (failed-leaves _ _ (g.V.Vault.state c.args.vault.now) (g.V.Vault.state c.open_gate.new.vault) c.in_err-open_gate.field-0.0 c.in_err-open_gate.ensures.fault)

@@ -1,5 +1,5 @@
 use Rattle.std.proofs.Common.{inl, inr, refl}
-use Rattle.checkpoint.proofs.FreshLaws.{first-zero, goes-empty, goes-synced, goes-then, goes-written, none-written, on_ok, second-zero}
+use Rattle.checkpoint.proofs.FreshLaws.{first-zero, goes-empty, goes-synced, goes-then, goes-written, none-written, on_ok, second-stands, second-zero}
 use Rattle.checkpoint.proofs.SureLaws.{unsynced-synced}
 use Rattle.checkpoint.proofs.starting.fresh.Goals as goal
 
@@ -51,3 +51,6 @@ pub returns-clause-stops : goal.returns-clause-stops
 returns-clause-stops g c told empty =
     goes-empty _ _ (goes-then _ _ _ (goes-then _ _ _ (goes-written _ _ _ _ (inl refl) (c.in_ok-write.ensures.written told)) (goes-written _ _ _ _ (inr refl) (c.in_ok-write-2.ensures.written told)))
     (goes-synced _ _ _ (c.sync.ensures.synced told))) empty
+
+pub returns-clause-written : goal.returns-clause-written
+returns-clause-written g c told = on_ok _ (second-stands _ _ _ _ _ _ _ (c.in_ok-write.ensures.written told) refl (c.in_ok-write-2.ensures.written told) refl (c.sync.ensures.synced told))
