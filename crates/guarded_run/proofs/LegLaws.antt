@@ -62,11 +62,11 @@ made_both (row ∷ rows) ys e f = go row.makes e (λ rest. made_both rows ys res
 -- ---- where a leg stands
 
 -- the machine at which the leg began, by its own count
-at_start : (events : List Line) (g : Guarded) (serial : ℕ) (t : Told) (cpu : Cpu) (a : IsAt events g serial t cpu) → guarded_on events a.machine.cpu.ran g ≡ Going Next a.machine serial a.rows
+pub at_start : (events : List Line) (g : Guarded) (serial : ℕ) (t : Told) (cpu : Cpu) (a : IsAt events g serial t cpu) → guarded_on events a.machine.cpu.ran g ≡ Going Next a.machine serial a.rows
 at_start events g serial t cpu a = ap (λ (c : Cpu). guarded_on events c.ran g) a.stands.numbers ∙ a.is
 
 -- and where it is after so many bytecodes of all legs
-leg_now : (events : List Line) (g : Guarded) (serial : ℕ) (t : Told) (cpu now : Cpu) (a : IsAt events g serial t cpu) (j : ℕ) (end : Step) (n : Machine) → run events j a.machine ≡ Ran end n → n.cpu.ran ≡ now.ran → guarded_on events now.ran g ≡ after_leg serial a.rows a.machine end n
+pub leg_now : (events : List Line) (g : Guarded) (serial : ℕ) (t : Told) (cpu now : Cpu) (a : IsAt events g serial t cpu) (j : ℕ) (end : Step) (n : Machine) → run events j a.machine ≡ Ran end n → n.cpu.ran ≡ now.ran → guarded_on events now.ran g ≡ after_leg serial a.rows a.machine end n
 leg_now events g serial t cpu now a j end n e count = ap (λ i. guarded_on events i g) (sym count) ∙ (leg_at events j g serial a.rows a.machine n end (at_start events g serial t cpu a) e).1
 
 -- ---- a stop in a bytecode of a leg, and in a settling

@@ -1,15 +1,16 @@
 -- A guarded run over memories, leg by leg: each leg has a memory of its own, and goes from a start to the next checkpoint or to the end.
-use Rattle.std.specs.Prelude.{◌≡◌, ℕ, ◌+◌, ◌≤◌, nat_lt, List, Result, Ok, Err, IsTrue}
+use Rattle.std.specs.Prelude.{◌≡◌, ◌⊎◌, ℕ, ◌+◌, ◌≤◌, nat_lt, List, Result, Ok, Err, IsTrue}
 use Rattle.long_names.specs.Heap.{Heap}
 use Rattle.long_names.specs.Kept.{kept, no_roots}
 use Rattle.object_memory.specs.Told.{Told}
 use Rattle.object_memory.specs.Contract.{IfBounds}
+use Rattle.object_memory.specs.declared.fault.MemFault.TheVariants.{CoreFull, WorkFull, WorkFault, Damaged, NamesSpent, Said, Memory}
 use Rattle.blue_model.specs.declared.cpu.Cpu.{Cpu}
 use Rattle.blue_model.specs.declared.event.Line.{Line}
 use Rattle.blue_model.specs.declared.limits.TheConstants.{LAST_SERIAL}
 use Rattle.blue_model.specs.declared.step.Step.{Step}
 use Rattle.blue_model.specs.declared.step.Step.TheVariants.{Next, Quit, Keep}
-use Rattle.blue_model.specs.Machine.{Machine, LogRow, Go}
+use Rattle.blue_model.specs.Machine.{Machine, LogRow, Go, log_of}
 use Rattle.blue_model.specs.Contexts.{park}
 use Rattle.blue_model.specs.Cycle.{cycle}
 use Rattle.blue_model.specs.State.{State, begin, state_of}
@@ -18,7 +19,8 @@ use Rattle.blue_model.specs.Guarded.{Guarded, Going, Broken, guarded_on, kept_af
 use Rattle.blue_model.specs.Law.{IsWholeMachine}
 use Rattle.blue_model.specs.Loaded.{loaded}
 use Rattle.contexts.specs.declared.stop.Stop.{Stop}
-use Rattle.contexts.specs.Serves.{Stands}
+use Rattle.contexts.specs.declared.stop.Stop.TheVariants.{Stuck, Mem}
+use Rattle.contexts.specs.Serves.{IsLogged, Stands}
 use Rattle.machine_run.specs.Run.{Awaits, Begins, IsHalt, IsSettled}
 use Rattle.guarded_run.specs.Course.{begun, course_on, serial_at}
 
@@ -66,6 +68,39 @@ Leaves events steps g serial new now (Ok Next) = Awaits new now Next (course_on 
 Leaves events steps g serial new now (Ok Quit) = Awaits new now Quit (course_on events steps g) × (serial_at (guarded_on events steps g) ≡ serial)
 Leaves events steps g serial new now (Ok Keep) = (parked : Machine) × IsToKeep events g serial new now parked
 Leaves events steps g serial new now (Err stop) = IsHalt stop now.ran steps new (course_on events steps g)
+
+-- The memory refused a machine that is to be parked: no machine's own stop is this, and parking makes and says nothing.
+abbrev pub RefusesParking : Stop → Machine → Type 0
+RefusesParking (Stuck cause) m = ⊥
+RefusesParking (Mem (CoreFull need)) m = IsLogged need (log_of (park m))
+RefusesParking (Mem (WorkFull live room)) m = ⊥
+RefusesParking (Mem (WorkFault count)) m = Unit {0}
+RefusesParking (Mem (Damaged place name)) m = ⊥
+RefusesParking (Mem NamesSpent) m = ⊥
+RefusesParking (Mem (Said count)) m = ⊥
+RefusesParking (Mem Memory) m = Unit {0}
+
+-- The last of so many bytecodes did 97, and what it asked for, a checkpoint under the serial after this one, wasn't kept: the memory refused parking, or settling
+-- before it.
+pub record StopsUnkept (events : List Line) (g : Guarded) (serial ran : ℕ) (stop : Stop) : Type 0 where
+  pub earlier : ℕ
+  pub ran_is : ran ≡ earlier + 1
+  pub before : Machine
+  pub behind : List LogRow
+  pub was : guarded_on events earlier g ≡ Going Next before serial behind
+  pub machine : Machine
+  pub log : List LogRow
+  pub did : cycle events before ≡ Go Keep machine log
+  pub refuses : RefusesParking stop machine
+  pub next : serial_at (guarded_on events ran g) ≡ serial + 1
+
+-- The serial of a leg is that of the model's last checkpoint after so many bytecodes, where the leg came to the run's end or stopped; or the checkpoint after it
+-- wasn't kept.
+abbrev pub KeepsSerial : List Line → Guarded → ℕ → ℕ → Result Step Stop → Type 0
+KeepsSerial events g serial ran (Ok Next) = serial_at (guarded_on events ran g) ≡ serial
+KeepsSerial events g serial ran (Ok Quit) = serial_at (guarded_on events ran g) ≡ serial
+KeepsSerial events g serial ran (Ok Keep) = serial_at (guarded_on events ran g) ≡ serial + 1
+KeepsSerial events g serial ran (Err stop) = (serial_at (guarded_on events ran g) ≡ serial) ⊎ StopsUnkept events g serial ran stop
 
 -- what a start came to: the machine is there, or it stopped as the guarded run does
 abbrev pub Starts : List Line → ℕ → Guarded → ℕ → Told → Cpu → Result (Unit {0}) Stop → Type 0

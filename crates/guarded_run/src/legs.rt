@@ -16,13 +16,15 @@ ghost use Rattle.machine_run.specs.States.{KeepsState, model_state};
 ghost use Rattle.object_memory.specs.Calls.{IsFit};
 ghost use Rattle.object_memory.specs.Contract.{IsLater};
 ghost use Rattle.object_memory.specs.Told.{Told};
-ghost use Rattle.guarded_run.specs.Legs.{GoesOnFrom, IsAt, IsToKeep, Leaves, Starts, guarded_first, numbers_before};
+ghost use Rattle.guarded_run.specs.Legs.{GoesOnFrom, IsAt, IsToKeep, KeepsSerial, Leaves, Starts, guarded_first, numbers_before};
 
 use blue_model::limits::LAST_SERIAL;
 use contexts::{Cpu, Stop, park};
 use event_file::EventList;
 use image_format::State;
-use machine_run::{Finished, Halted, Step, begin, draw, run, state_of};
+use machine_run::{
+    Finished, Halted, NoObserver, Observer, Step, begin, draw, run_observed, state_of,
+};
 use object_memory::ObjectMemory;
 use std::alloc::Global;
 
@@ -99,6 +101,7 @@ pub fn run_leg<M: ObjectMemory>(
     requires rest { HasRest (M.told m.old) }
     requires few { cpu.old.ran ≤ steps }
     ensures leaves { IsTrue (M.told m.old).tells → (g : Guarded) (serial : ℕ) → IsAt events.now g serial (M.told m.old) cpu.old → Leaves events.now steps g serial (M.told m.new) cpu.new result }
+    ensures serial { IsTrue (M.told m.old).tells → (g : Guarded) (serial : ℕ) → IsAt events.now g serial (M.told m.old) cpu.old → KeepsSerial events.now g serial cpu.new.ran result }
     ensures counted { IfOk result (λ end. HasCounted end cpu.new.ran steps) }
     ensures few { cpu.new.ran ≤ steps }
     ensures keeps { StepsBy cpu.old.vault result }
@@ -106,7 +109,30 @@ pub fn run_leg<M: ObjectMemory>(
     ensures later { IsLater (M.told m.old) (M.told m.new) }
     ensures fit { StaysFit M.ObjectMemory m.old m.new result }
 {
-    let end = run(m, cpu, events, steps - cpu.ran)?;
+    run_leg_observed(m, cpu, events, steps, &mut NoObserver)
+}
+
+/// Runs as `run_leg` does, and tells an observer at every 65,536th bytecode.
+pub fn run_leg_observed<M: ObjectMemory, O: Observer>(
+    m: &mut M,
+    cpu: &mut Cpu,
+    events: &EventList,
+    steps: u32,
+    observer: &mut O,
+) -> Result<Step, Stop>
+    requires fit { IsFit M.ObjectMemory m.old }
+    requires rest { HasRest (M.told m.old) }
+    requires few { cpu.old.ran ≤ steps }
+    ensures leaves { IsTrue (M.told m.old).tells → (g : Guarded) (serial : ℕ) → IsAt events.now g serial (M.told m.old) cpu.old → Leaves events.now steps g serial (M.told m.new) cpu.new result }
+    ensures serial { IsTrue (M.told m.old).tells → (g : Guarded) (serial : ℕ) → IsAt events.now g serial (M.told m.old) cpu.old → KeepsSerial events.now g serial cpu.new.ran result }
+    ensures counted { IfOk result (λ end. HasCounted end cpu.new.ran steps) }
+    ensures few { cpu.new.ran ≤ steps }
+    ensures keeps { StepsBy cpu.old.vault result }
+    ensures fault { IfErr result (FaultsBy (M.told m.old) (M.told m.new)) }
+    ensures later { IsLater (M.told m.old) (M.told m.new) }
+    ensures fit { StaysFit M.ObjectMemory m.old m.new result }
+{
+    let end = run_observed(m, cpu, events, steps - cpu.ran, observer)?;
     park(m, cpu)?;
     Ok(end)
 }

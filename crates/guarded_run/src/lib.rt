@@ -10,6 +10,8 @@
 //!         end => finish_leg(alloc, &mut m, &cpu, end),             // the picture and the state
 //!     }
 //!
+//! `run_leg_observed` is `run_leg` with an `Observer` of machine_run, who is told how far the run is.
+//!
 //! The clauses say where the model's guarded run (`Guarded` of blue_model) is then, and that a stop is the one that it comes to: read
 //! `specs/Course.antt` first, the course of a guarded run, then `specs/Legs.antt`. That a memory keeps what the model's machine keeps is a
 //! law (`laws`). Over a memory that doesn't tell its heap nothing is said but of counts and faults.
@@ -22,4 +24,4 @@
 pub mod laws;
 mod legs;
 
-pub use legs::{continue_leg, finish_leg, run_leg, start_leg};
+pub use legs::{continue_leg, finish_leg, run_leg, run_leg_observed, start_leg};

@@ -12,6 +12,9 @@
 //!
 //! Whoever puts a run together of its parts has `begin`, `run`, `draw` and `state_of`, and `park` of contexts.
 //!
+//! `run_observed` and `whole_run_observed` are the same with an `Observer`, who is told every 65,536 bytecodes how many were run; `run` and
+//! `whole_run` are these with nobody. An observer is handed two numbers, and no memory.
+//!
 //! `traced_cycle` does one cycle of a run that is traced: it also tells the active context, the instruction pointer and the byte there, as the
 //! machine came to its bytecode (`specs/Sights.antt`).
 //!
@@ -25,12 +28,17 @@
 #![tactic(auto)]
 
 pub mod laws;
+mod observer;
 mod running;
 mod states;
 mod tracing;
 
 pub use blue_model::Step;
 pub use image_format::State;
-pub use running::{Finished, Halted, Reason, draw, is_last, run, settle, whole_run};
+pub use observer::{NoObserver, Observer};
+pub use running::{
+    Finished, Halted, Reason, draw, is_last, run, run_observed, settle, whole_run,
+    whole_run_observed,
+};
 pub use states::{begin, state_of};
 pub use tracing::{Sight, Traced, traced_cycle};

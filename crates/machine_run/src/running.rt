@@ -18,6 +18,7 @@ ghost use Rattle.machine_run.specs.Run.{Begins, DrawsAs, EndsAs, DrawsFit, EndsF
 ghost use Rattle.object_memory.specs.Calls.{IsFit, KeepsFit};
 ghost use Rattle.contexts.specs.Calls.{StaysFit};
 
+use crate::observer::{NoObserver, Observer, tell};
 use crate::states::{begin, state_of};
 use bytecodes::{Step, step};
 use contexts::{Cpu, Stop, park};
@@ -152,11 +153,36 @@ pub fn run<M: ObjectMemory>(
     ensures rest { OnOk result (HasRest (M.told m.new)) }
     ensures fit { StaysFit M.ObjectMemory m.old m.new result }
 {
+    run_observed(m, cpu, events, steps, &mut NoObserver)
+}
+
+/// Runs as `run` does, and tells an observer at every 65,536th bytecode.
+pub fn run_observed<M: ObjectMemory, O: Observer>(
+    m: &mut M,
+    cpu: &mut Cpu,
+    events: &EventList,
+    steps: u32,
+    observer: &mut O,
+) -> Result<Step, Stop>
+    requires fit { IsFit M.ObjectMemory m.old }
+    requires rest { HasRest (M.told m.old) }
+    requires room { cpu.old.ran + steps < 2 ^ 32 }
+    ensures runs { IsTrue (M.told m.old).tells → (machine : Machine) → Stands (M.told m.old) cpu.old machine → RunsAs events.now (M.told m.old) (M.told m.new) cpu.new steps machine result }
+    ensures fault { IfErr result (FaultsBy (M.told m.old) (M.told m.new)) }
+    ensures counted { IfOk result (λ end. HasCounted end cpu.new.ran (cpu.old.ran + steps)) }
+    ensures few { cpu.new.ran ≤ cpu.old.ran + steps }
+    ensures settled { OnOk result (0 < steps → IsSettled (M.told m.new)) }
+    ensures keeps { StepsBy cpu.old.vault result }
+    ensures later { IsLater (M.told m.old) (M.told m.new) }
+    ensures rest { OnOk result (HasRest (M.told m.new)) }
+    ensures fit { StaysFit M.ObjectMemory m.old m.new result }
+{
     for turn in 0..steps {
         let step = settled_cycle(m, cpu, events)?;
         if is_last(step) {
             return Ok(step);
         }
+        tell(observer, cpu);
     }
     Ok(Step::Next)
 }
@@ -191,12 +217,13 @@ pub struct Halted {
 }
 
 /// Starts with a state, runs so many bytecodes, and parks. The vault is shut. `cpu.ran` says how many were run.
-fn go_through<M: ObjectMemory>(
+fn go_through<M: ObjectMemory, O: Observer>(
     m: &mut M,
     cpu: &mut Cpu,
     events: &EventList,
     steps: u32,
     state: &State,
+    observer: &mut O,
 ) -> Result<Step, Stop>
     requires fit { IsFit M.ObjectMemory m.old }
     requires state { IsTrue (M.told m.old).tells → KeepsState (M.told m.old) (model_state state.now) }
@@ -209,7 +236,7 @@ fn go_through<M: ObjectMemory>(
     ensures fit { StaysFit M.ObjectMemory m.old m.new result }
 {
     begin(m, cpu, state)?;
-    let step = run(m, cpu, events, steps)?;
+    let step = run_observed(m, cpu, events, steps, observer)?;
     park(m, cpu)?;
     Ok(step)
 }
@@ -246,8 +273,30 @@ pub fn whole_run<M: ObjectMemory>(
     ensures later { IsLater (M.told m.old) (M.told m.new) }
     ensures fit { EndsFit M.ObjectMemory m.old m.new result }
 {
+    whole_run_observed(alloc, m, events, steps, state, &mut NoObserver)
+}
+
+/// Runs whole as `whole_run` does, and tells an observer at every 65,536th bytecode.
+pub fn whole_run_observed<M: ObjectMemory, O: Observer>(
+    alloc: Global,
+    m: &mut M,
+    events: &EventList,
+    steps: u32,
+    state: &State,
+    observer: &mut O,
+) -> Result<Finished, Halted>
+    requires fit { IsFit M.ObjectMemory m.old }
+    requires state { IsTrue (M.told m.old).tells → KeepsState (M.told m.old) (model_state state.now) }
+    ensures ends { IsTrue (M.told m.old).tells → (h : Heap) → Begins h (M.told m.old) → EndsAs (M.told m.new) steps result (course_with_earlier (M.told m.old).transcript (course events.now steps (model_state state.now) h)) }
+    ensures fault { IfErr result (λ halted. HaltsBy (M.told m.old) (M.told m.new) halted.why) }
+    ensures ran { IfErr result (λ halted. halted.ran ≤ steps) }
+    ensures counted { IfOk result (λ finished. HasCounted finished.end finished.ran steps) }
+    ensures kept { IfOk result (λ finished. is_kept finished.end ≡ false) }
+    ensures later { IsLater (M.told m.old) (M.told m.new) }
+    ensures fit { EndsFit M.ObjectMemory m.old m.new result }
+{
     let mut cpu = Cpu::at_rest();
-    let end = match go_through(m, &mut cpu, events, steps, state) {
+    let end = match go_through(m, &mut cpu, events, steps, state, observer) {
         Ok(end) => end,
         Err(stop) => return Err(halt_of(Reason::ByStop(stop), cpu.ran)),
     };

@@ -4,7 +4,7 @@ use Rattle.object_memory.proofs.LaterLaws.{IsLater-refl, IsLater-trans}
 use Rattle.blue_model.proofs.EndingLaws.{goes_on}
 use Rattle.machine_run.specs.Run.{Reaches}
 use Rattle.machine_run.proofs.RunningLaws.{faults_earlier, reaches_start, reaches_on, reaches_end, stops_on, runs_exit, last_counted, never, faults_exit}
-use Rattle.machine_run.proofs.running.run.Goals as goal
+use Rattle.machine_run.proofs.running.run_observed.Goals as goal
 
 pub loop-turn-init : goal.loop-turn-init
 loop-turn-init g c = record {

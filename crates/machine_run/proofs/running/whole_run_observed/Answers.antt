@@ -5,7 +5,7 @@ use Rattle.machine_run.specs.States.{model_state}
 use Rattle.blue_model.specs.Logs.{course}
 use Rattle.blue_model.specs.Earlier.{course_with_earlier}
 use Rattle.machine_run.proofs.RunningLaws.{draw_halts}
-use Rattle.machine_run.proofs.running.whole_run.Goals as goal
+use Rattle.machine_run.proofs.running.whole_run_observed.Goals as goal
 
 pub returns-in-Err-draw-clause-ends : goal.returns-in-Err-draw-clause-ends
 returns-in-Err-draw-clause-ends g c = λ told h begins.

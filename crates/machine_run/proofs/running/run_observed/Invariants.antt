@@ -5,7 +5,7 @@ use Rattle.blue_model.specs.Machine.{Machine}
 use Rattle.contexts.specs.Serves.{Stands, HasRest}
 use Rattle.machine_run.specs.Run.{Reaches, IsSettled}
 use Rattle.object_memory.specs.Calls.{IsFit}
-use Rattle.machine_run.proofs.running.run.Given as goal
+use Rattle.machine_run.proofs.running.run_observed.Given as goal
 
 -- The memory stands for the machine after so many cycles, all of them counted.
 abbrev pub invariant-loop-turn : goal.invariant-loop-turn
