@@ -1,6 +1,6 @@
 -- A guarded run ended while its machine ran, or later: what its legs and the writing behind them said, put together. What is told may be fewer roles than the host
 -- tells.
-use Rattle.std.proofs.Common.{◌≡◌, ℕ, ◌++◌, Bool, List, IsTrue, inl, inr, refl, ◌∙◌, ap, subst, arith}
+use Rattle.std.proofs.Common.{◌≡◌, ◌⊎◌, ℕ, ◌++◌, Bool, List, IsTrue, inl, inr, refl, ◌∙◌, ap, subst, arith}
 use Rattle.long_names.specs.Heap.{Heap}
 use Rattle.loom_host.specs.Outside.{RoleState}
 use Rattle.loom_host.specs.declared.outside.Role.{Role}
@@ -14,18 +14,20 @@ use Rattle.checkpoint.specs.History.{Keeps}
 use Rattle.guarded_run.specs.Course.{serial_at}
 use Rattle.loom_run.specs.Ends.{IsAnswered, RunsTo, SaysStopped}
 use Rattle.loom_run.specs.Meanings.{LeavesBut, Meanings}
-use Rattle.loom_run.specs.Stages.{Listening, Making, Running, Finishing, Ends, roles_at, written_roles}
-use Rattle.loom_run.specs.Steps.{CameThrough, IsSameFile, LateEnds, Uses}
+use Rattle.loom_run.specs.Stages.{Listening, Making, Running, Finishing, Ends, passes, roles_at, written_roles}
+use Rattle.loom_run.specs.Steps.{CameThrough, IsSameFile, Uses, WrittenEnds}
 use Rattle.loom_run.proofs.EndsLaws.{cause-since}
 use Rattle.loom_run.proofs.Frames.{leaves-all}
 use Rattle.loom_run.proofs.UsesLaws.{left-then, never, uses-finishing, uses-making, uses-running}
 use Rattle.loom_words.specs.Words.{Row}
 use Rattle.loom_words.specs.declared.status.Status.{Status}
 use Rattle.loom_guard.specs.Checkpoints.{IsCheckpoint}
-use Rattle.loom_guard.specs.Legs.{HaltsAt, StopsFinishing}
+use Rattle.loom_guard.specs.Legs.{HaltsAt, StopsBetween, StopsFinishing, StopsRunning, WantsMemory}
+use Rattle.loom_guard.specs.Moments.{StopsAt}
 use Rattle.loom_guard.specs.Promise.{ComesTo, EndsKept}
 use Rattle.loom_guard.specs.Steps.{GuardedEnds, LegsStop, later_roles}
-use Rattle.loom_guard.specs.Vaults.{HasLast, VaultMeanings}
+use Rattle.loom_guard.specs.Vaults.{HasLast, KeepsLast, VaultMeanings}
+use Rattle.loom_guard.proofs.MomentLaws.{moment-fewer}
 use Rattle.loom_guard.proofs.StatusLaws.{caused-none, ends-kept, goes-finishing}
 
 module _ (tells fewer : Role → Bool) (sub : (role : Role) → IsTrue (fewer role) → IsTrue (tells role)) (before mid far : Meanings) (row : Row) (used : Uses fewer before mid row Listening)
@@ -55,7 +57,7 @@ module _ (tells fewer : Role → Bool) (sub : (role : Role) → IsTrue (fewer ro
 
   -- ---- the legs were stopped
 
-  stopped-running : (lines : List Line) (g : Guarded) (status : Status) (c : Course) → HaltsAt Running tells mid far row lines g status c → ComesTo fewer before far row lines g Running status c
+  stopped-running : (lines : List Line) (g : Guarded) (status : Status) (c : Course) → StopsRunning tells mid far row status c ⊎ WantsMemory tells mid far row lines g status c → ComesTo fewer before far row lines g Running status c
   stopped-running lines g status c (inl h) = inl record {
     stops = λ at. h.stops;
     goes = λ past. never past;
@@ -91,8 +93,16 @@ module _ (tells fewer : Role → Bool) (sub : (role : Role) → IsTrue (fewer ro
     image = λ past. never past;
   }
 
-  module _ (told : Bool) (old new : VaultMeanings) (lines : List Line) (g : Guarded) (c : Course) (status : Status) (stop : LegsStop tells mid far old.faults new.faults row lines g c status)
-      (stops : IsTrue told → (last : ℕ) × Keeps old.state new.state last (λ serial kept. IsTrue (fewer Work) → IsCheckpoint lines row.steps g serial kept)) where
+  moment-since : (lines : List Line) (g : Guarded) (last : ℕ) (status : Status) (c : Course) → StopsBetween tells mid far row lines g last status c → StopsBetween fewer before far row lines g last status c
+  moment-since lines g last status c x =
+      subst (λ (s : RoleState). StopsAt (fewer Transcript) row.steps lines g c s.put (far.roles Transcript).put last status) unsaid
+      (moment-fewer (tells Transcript) (fewer Transcript) (sub Transcript) row.steps lines g c (mid.roles Transcript).put (far.roles Transcript).put last status x)
+
+  module _ (told : Bool) (old new : VaultMeanings) (lines : List Line) (g : Guarded) (c : Course) (last : ℕ) (status : Status) (stop : LegsStop tells mid far old.faults new.faults row lines g c last status) (stays : IsTrue told → KeepsLast new.state last status)
+      (stops : IsTrue told → Keeps old.state new.state last (λ serial kept. IsTrue (fewer Work) → IsCheckpoint lines row.steps g serial kept)) where
+    running : stop.stage ≡ Running → IsTrue (fewer Work) → HaltsAt Running tells mid far row lines g last status c
+    running e work = subst (λ stage. HaltsAt stage tells mid far row lines g last status c) e (stop.halts (sub Work work))
+
     ends-running : stop.stage ≡ Running → GuardedEnds fewer told before far old new row lines g c status
     ends-running e = record {
       stage = Running;
@@ -103,15 +113,17 @@ module _ (tells fewer : Role → Bool) (sub : (role : Role) → IsTrue (fewer ro
       answered = answered-since status stop.answered;
       caused = stop.caused;
       untold = used-running.unused Notes refl;
-      comes = λ work. stopped-running lines g status c (subst (λ stage. HaltsAt stage tells mid far row lines g status c) e (stop.halts (sub Work work)));
-      kept = λ work t past. never past;
+      comes = λ work. stopped-running lines g status c (running e work).0;
+      last = last;
+      moment = λ work. record { stopped = λ at. moment-since lines g last status c (running e work).1; through = λ past. never past };
+      stays = stays;
       stops = stops;
     }
 
     ends-finishing : stop.stage ≡ Finishing → GuardedEnds fewer told before far old new row lines g c status
     ends-finishing e =
         let answer : EndsKept Finishing status = subst (λ stage. EndsKept stage status) e stop.answer in
-        let went : IsTrue (fewer Work) → StopsFinishing tells mid far row c = λ work. subst (λ stage. HaltsAt stage tells mid far row lines g status c) e (stop.halts (sub Work work)) in
+        let went : IsTrue (fewer Work) → HaltsAt Finishing tells mid far row lines g last status c = λ work. subst (λ stage. HaltsAt stage tells mid far row lines g last status c) e (stop.halts (sub Work work)) in
         record {
           stage = Finishing;
           late = refl;
@@ -121,8 +133,10 @@ module _ (tells fewer : Role → Bool) (sub : (role : Role) → IsTrue (fewer ro
           answered = answered-since status stop.answered;
           caused = stop.caused;
           untold = used-finishing.unused Notes refl;
-          comes = λ work. inl (stopped-finishing status c answer (went work));
-          kept = λ work t past. never past;
+          comes = λ work. inl (stopped-finishing status c answer (went work).0);
+          last = last;
+          moment = λ work. record { stopped = λ at. absurd (cc); through = λ past. (went work).1 };
+          stays = stays;
           stops = stops;
         }
 
@@ -134,11 +148,11 @@ module _ (tells fewer : Role → Bool) (sub : (role : Role) → IsTrue (fewer ro
 
 -- ---- what was left was written
 
-pub late-ended : (tells : Role → Bool) (told : Bool) (before now : Meanings) (old new : VaultMeanings) (row : Row) (lines : List Line) (g : Guarded) (c : Course) (status : Status) → LateEnds tells before now row status c
-    → (IsTrue (tells Work) → IsTrue told → HasLast new.state (serial_at (guarded_on lines row.steps g)))
-    → (IsTrue told → (last : ℕ) × Keeps old.state new.state last (λ serial kept. IsTrue (tells Work) → IsCheckpoint lines row.steps g serial kept))
+pub late-ended : (tells : Role → Bool) (told : Bool) (before now : Meanings) (old new : VaultMeanings) (row : Row) (lines : List Line) (g : Guarded) (c : Course) (last : ℕ) (status : Status) → WrittenEnds tells before now row status c
+    → (IsTrue told → HasLast new.state last) → (IsTrue (tells Work) → serial_at (guarded_on lines row.steps g) ≡ last)
+    → (IsTrue told → Keeps old.state new.state last (λ serial kept. IsTrue (tells Work) → IsCheckpoint lines row.steps g serial kept))
     → GuardedEnds tells told before now old new row lines g c status
-late-ended tells told before now old new row lines g c status end kept stops = record {
+late-ended tells told before now old new row lines g c last status written has serial stops = let end = written.0 in record {
   stage = end.stage;
   late = end.late;
   uses = end.uses;
@@ -148,7 +162,9 @@ late-ended tells told before now old new row lines g c status end kept stops = r
   caused = caused-none end.stage status old.faults new.faults end.refusal.answer;
   untold = end.untold;
   comes = λ work. inl (end.runs work);
-  kept = λ work t past. kept work t;
+  last = last;
+  moment = λ work. record { stopped = λ at. never (subst (λ stage. IsTrue (passes Finishing stage)) at written.1); through = λ past. serial work };
+  stays = λ t none. has t;
   stops = stops;
 }
 

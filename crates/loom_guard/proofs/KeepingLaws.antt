@@ -1,7 +1,8 @@
 -- What a leg left on a disk is the image that the next leg begins with, and why none was kept.
-use Rattle.std.proofs.Common.{◌≡◌, ℕ, ◌≤◌, Bool, true, false, cond, [], is_some, IsTrue, inl, inr, refl, sym, ◌∙◌, ap, subst, arith}
-use Rattle.std.specs.Prelude.{◌%◌}
-use Rattle.long_names.specs.Heap.{Heap}
+use Rattle.std.proofs.Common.{◌≡◌, ℕ, ◌≤◌, Bool, true, false, cond, List, [], Option, Some, is_some, IsTrue, inl, inr, refl, sym, ◌∙◌, ap, subst, arith}
+use Rattle.std.specs.Prelude.{◌%◌, IfSome, None}
+use Rattle.long_names.specs.Heap.{Heap, Has, IsBounded, count_of}
+use Rattle.long_names.specs.declared.object.Object.{Object}
 use Rattle.long_names.specs.Kept.{kept, no_roots}
 use Rattle.loom_host.specs.declared.outside.Host.{Ghosts}
 use Rattle.loom_host.specs.declared.outside.Role.{Role}
@@ -14,21 +15,27 @@ use Rattle.image_format.specs.Valid.{IsImageHeap}
 use Rattle.disk_objects.specs.declared.rest.DiskRest.{DiskRest}
 use Rattle.disk_objects.specs.Disk.{IsDisk, Objects}
 use Rattle.disk_objects.specs.Function.{disk_of}
-use Rattle.image_writer.specs.Saved.{disk_heap, kept_state, kept_word, saved_text}
+use Rattle.image_writer.specs.Saved.{IsExact, disk_heap, kept_state, kept_word, saved_text}
+use Rattle.image_writer.proofs.DiskFacts.{same_counts, same_disk}
 use Rattle.image_reader.specs.declared.loading.Loaded.{Loaded}
 use Rattle.image_reader.specs.Loaded.{IsLoadedHeap, heap_on}
 use Rattle.image_memory.specs.Image.{HasEnded, HasImage, IsStateOf}
 use Rattle.image_memory.proofs.EndLaws.{ended-exact, ended-heap, ended-stays}
 use Rattle.machine_run.specs.States.{model_state, state_left}
-use Rattle.checkpoint.specs.Faults.{IsKeepFault}
-use Rattle.checkpoint.specs.Keeping.{HasEither}
+use Rattle.checkpoint.specs.Faults.{IsKeepFault, LeavesLast}
+use Rattle.checkpoint.specs.Keeping.{HasEither, HasSame, IsLast, serial_of}
+use Rattle.checkpoint.specs.Layout.{found, image_in}
 use Rattle.checkpoint.specs.Vault.{Throughout, VaultState, contents_of}
+use Rattle.checkpoint.specs.declared.point.Point.{Point}
+use Rattle.checkpoint.proofs.MomentLaws.{throughout-still}
 use Rattle.checkpoint.specs.declared.fault.VaultFault.{VaultFault as Fault}
 use Rattle.checkpoint.specs.declared.fault.VaultFault.TheVariants as fault
 use Rattle.loom_words.specs.declared.status.Status.{Status}
 use Rattle.loom_run.specs.Meanings.{Meanings, meanings}
 use Rattle.loom_run.proofs.EndsLaws.{cause-since}
-use Rattle.loom_guard.specs.Turns.{IsKeepRefusal, status_by_vault}
+use Rattle.loom_guard.specs.Turns.{IsKeepRefusal, LeavesChecked, status_by_vault}
+use Rattle.loom_guard.specs.Vaults.{KeepsLast}
+use Rattle.loom_guard.proofs.VaultLaws.{has-last}
 
 -- ---- the image on the disk
 
@@ -134,3 +141,66 @@ keep-refused host old now before after fault.Memory h = record { ends = tt; caus
 -- since an earlier moment of the host
 pub keep-since : (tells : Role → Bool) (a b c : Meanings) (before after : ℕ) (status : Status) → ((role : Role) → a.faults role ≤ b.faults role) → IsKeepRefusal tells b c before after status → IsKeepRefusal tells a c before after status
 keep-since tells a b c before after status later r = record { ends = r.ends; cause = cause-since status a.faults b.faults c.faults later r.cause; whole = r.whole; caused = r.caused }
+
+-- ---- a disk that was only read
+
+pub read-then : {H : Type 0} (host : Ghosts H) (a b c : H) → IsWorkRead host a b → IsWorkRead host b c → IsWorkRead host a c
+read-then host a b c p q = record {
+  roles = λ r. q.roles r ∙ p.roles r;
+  other_faults = λ r none. q.other_faults r none ∙ p.other_faults r none;
+  later = let low = p.later in let high = q.later in omega (arith, low, high);
+  writes = q.writes ∙ p.writes;
+}
+
+abbrev heap-with : ℕ → (ℕ → Option Object) → Heap
+heap-with next at = record { at = at; next = next }
+
+module _ {H : Type 0} (host : Ghosts H) (old now : H) (rest after : DiskRest) (next : ℕ) (work : host.roles now Work ≡ host.roles old Work) (same : after ≡ rest) where
+  heap-read : disk_heap host now after next ≡ disk_heap host old rest next
+  heap-read = ap (heap-with next) (same_disk host old now rest after work same)
+
+  pub exact-read : IsExact host old rest next → IsExact host now after next
+  exact-read e = record {
+    bounded = subst IsBounded (sym heap-read) e.bounded;
+    counts = λ n has.
+        ap (λ (f : ℕ → Option ℕ). f n) (same_counts host old now rest after work same)
+        ∙ e.counts n (subst (λ (h : Heap). Has h n) heap-read has)
+        ∙ ap (λ (h : Heap). Some (count_of h n)) (sym heap-read);
+  }
+
+  pub stops-read : (state : Words) (serial : ℕ) (before later : VaultState) → Throughout before later (HasEither (contents_of before) serial (λ text. IsTrue (host.tells Work) → text ≡ saved_text (disk_heap host now after next) state))
+      → Throughout before later (HasEither (contents_of before) serial (λ text. IsTrue (host.tells Work) → text ≡ saved_text (disk_heap host old rest next) state))
+  stops-read state serial before later stops = subst (λ (h : Heap). Throughout before later (HasEither (contents_of before) serial (λ text. IsTrue (host.tells Work) → text ≡ saved_text h state))) heap-read stops
+
+-- ---- the vault's last checkpoint, where none was kept
+
+-- nothing was done with the vault
+pub unkept-stops : (s : VaultState) (last : Option Point) (serial : ℕ) (IsText : List ℕ → Type 0) → IsLast s last → Throughout s s (HasEither (contents_of s) serial IsText)
+unkept-stops s last serial IsText is = throughout-still s s (HasEither (contents_of s) serial IsText) refl (λ bytes may. inl ((has-last s last (serial_of last) is refl).outlives bytes may))
+
+pub unkept-left : (s : VaultState) (last : Option Point) (status : Status) → IsLast s last → LeavesChecked s s status
+unkept-left s last status is = λ no bytes may. (has-last s last (serial_of last) is refl).outlives bytes may
+
+-- a call on it failed, or it has what it had
+pub refused-left : {H : Type 0} (host : Ghosts H) (old now : H) (a b : VaultState) (before after : ℕ) (f : Fault) → IsKeepFault host old now before after f → LeavesLast a b f → LeavesChecked a b (status_by_vault f)
+refused-left host old now a b before after (fault.Failed count) h left = λ no bytes may. absurd (no tt)
+refused-left host old now a b before after (fault.Bad place) h left = absurd h
+refused-left host old now a b before after (fault.Disk f) h left = λ no bytes may. left bytes may
+refused-left host old now a b before after fault.Memory h left = λ no bytes may. left bytes may
+
+same-then : (a b c : List ℕ) → HasSame a b → HasSame a c → HasSame b c
+same-then a b c p q = record {
+  whole = q.whole;
+  found_is = q.found_is ∙ sym p.found_is;
+  image = subst (λ (o : Option Point). IfSome o (λ x. image_in c x ≡ image_in b x)) (sym p.found_is) (go (found a) p.image q.image);
+}
+  where
+    go : (o : Option Point) → IfSome o (λ x. image_in b x ≡ image_in a x) → IfSome o (λ x. image_in c x ≡ image_in a x) → IfSome o (λ x. image_in c x ≡ image_in b x)
+    go None x y = tt
+    go (Some point) x y = y ∙ sym x
+
+-- so it is the one that it has, and a stop leaves it
+pub checked-last : (a b : VaultState) (last : Option Point) (status : Status) → IsLast a last → LeavesChecked a b status → KeepsLast b (serial_of last) status
+checked-last a b last status is left = λ no.
+    let here = left no (contents_of b) (λ i synced. refl) in
+    record { has = ap serial_of here.found_is ∙ ap serial_of is.found_is; outlives = λ bytes may. same-then (contents_of a) (contents_of b) bytes here (left no bytes may) }

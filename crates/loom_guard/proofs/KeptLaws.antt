@@ -30,7 +30,8 @@ use Rattle.loom_guard.specs.Steps.{GuardedEnds, KeptRunEnds}
 use Rattle.loom_guard.specs.Vaults.{IsVaultRefusal, LeavesVault, OpenedOnce, VaultMeanings}
 use Rattle.loom_guard.specs.Ways.{Way, Guarding, Resuming, image_by, is_told, tells_by}
 use Rattle.loom_guard.proofs.StatusLaws.{caused-none, ends-kept, refusal-is, vault-since}
-use Rattle.loom_guard.proofs.WayLaws.{answered-by, answered-of, by-told, comes-by}
+use Rattle.loom_guard.proofs.VaultLaws.{has-last}
+use Rattle.loom_guard.proofs.WayLaws.{answered-by, answered-of, by-told, comes-by, moment-by}
 
 -- calls but an opening leave the openings as they were
 pub once-extended : (vault : List ℕ) (old start new : VaultState) → OpenedOnce vault old start → Extends start new → OpenedOnce vault old new
@@ -50,6 +51,18 @@ unread-late Finishing late count ends = ends
 unread-late Saving late count ends = ends
 unread-late Drawing late count ends = ends
 unread-late Telling late count ends = ends
+
+-- no stage is both before the machine's run and at it or later
+never-both : {P : Type 0} (stage : Stage) → IsTrue (reaches Running stage) → IsTrue (passes stage Running) → P
+never-both Opening late before = never late
+never-both Reading late before = never late
+never-both Listening late before = never late
+never-both Making late before = never late
+never-both Running late before = never before
+never-both Finishing late before = never before
+never-both Saving late before = never before
+never-both Drawing late before = never before
+never-both Telling late before = never before
 
 module _ (way : Way) (tells : Role → Bool) (told : Bool) (before : Meanings) (old : VaultMeanings) (row : Row) (vault : List ℕ) where
   -- ---- the vault was refused
@@ -94,8 +107,11 @@ module _ (way : Way) (tells : Role → Bool) (told : Bool) (before : Meanings) (
         starts = starts;
         judges = judges;
         right = right;
+        last = serial_of point;
+        early = λ before. refl;
+        stays = λ t none. has-last new.state point (serial_of point) (starts t).last refl;
         run = λ image events work came. absurd (early-stage (λ stage. IsTrue (reaches Running stage) → ⊥) end.stage end.early (λ no. never no) (λ no. never no) (λ no. never no) came);
-        stops = λ t. (serial_of point, keeps-still new.state point _ (starts t).last);
+        stops = λ t. keeps-still new.state point _ (starts t).last;
       },
     );
     of_run = end.refusal.of_run;
@@ -114,7 +130,7 @@ module _ (way : Way) (tells : Role → Bool) (told : Bool) (before : Meanings) (
       → GuardedEnds (tells_by way tells) told before now start new row lines (guarded_first (serial_of point) [] (model_state state) heap) (guarded_course lines row.steps (serial_of point) (model_state state) heap) result
       → KeptRunEnds way tells told before now old new row vault result
   kept-late now start new result point state heap lines none opened low high starts left image heard read end = record {
-    opened = λ t. once-extended vault old.state start.state new.state (opened t) (end.stops t).1.extends;
+    opened = λ t. once-extended vault old.state start.state new.state (opened t) (end.stops t).extends;
     ends = inr (
       end.stage,
       record {
@@ -132,27 +148,28 @@ module _ (way : Way) (tells : Role → Bool) (told : Bool) (before : Meanings) (
         starts = starts;
         judges = λ t at. never (subst (λ stage. IsTrue (reaches Running stage)) at end.late);
         right = λ t work past. (let r = read t work in record { head = r.head; heap = heap; image = r.image; roomy = r.roomy });
+        last = end.last;
+        early = λ before. never-both end.stage end.late before;
+        stays = end.stays;
         run = λ t events work came. (let r = read t work in record {
           head = r.head;
           heap = heap;
           is = r.image;
           lines = lines;
           list = (heard (by-told way tells Events (λ e. cc) events)).1;
-          run = subst (λ (s : Words). GuardComes tells told before now new row end.stage result lines (guarded_first (serial_of point) [] (model_state s) heap) (guarded_course lines row.steps (serial_of point) (model_state s) heap))
+          run = subst (λ (s : Words). GuardComes tells before now row end.stage end.last result lines (guarded_first (serial_of point) [] (model_state s) heap) (guarded_course lines row.steps (serial_of point) (model_state s) heap))
               (sym r.state_is)
-              (comes-by way tells before now row lines _ end.stage result _ (end.comes (by-told way tells Work (λ e. cc) work)), end.kept (by-told way tells Work (λ e. cc) work));
+              (comes-by way tells before now row lines _ end.stage result _ (end.comes (by-told way tells Work (λ e. cc) work)), moment-by way tells before now row lines _ _ end.stage end.last result (end.moment (by-told way tells Work (λ e. cc) work)));
         });
-        stops = λ t. (let s = end.stops t in (
-          s.0,
-          keeps-gives start.state new.state s.0 _ _ (λ serial kept x image_told events work. (let r = read image_told work in record {
-            head = r.head;
-            heap = heap;
-            is = r.image;
-            lines = lines;
-            list = (heard (by-told way tells Events (λ e. cc) events)).1;
-            checkpoint = subst (λ (w : Words). IsCheckpoint lines row.steps (guarded_first (serial_of point) [] (model_state w) heap) serial kept) (sym r.state_is) (x (by-told way tells Work (λ e. cc) work));
-          })) s.1,
-        ));
+        stops = λ t.
+            keeps-gives start.state new.state end.last _ _ (λ serial kept x image_told events work. (let r = read image_told work in record {
+              head = r.head;
+              heap = heap;
+              is = r.image;
+              lines = lines;
+              list = (heard (by-told way tells Events (λ e. cc) events)).1;
+              checkpoint = subst (λ (w : Words). IsCheckpoint lines row.steps (guarded_first (serial_of point) [] (model_state w) heap) serial kept) (sym r.state_is) (x (by-told way tells Work (λ e. cc) work));
+            })) (end.stops t);
       },
     );
     of_run = end.of_run;

@@ -29,9 +29,10 @@ use Rattle.loom_words.specs.Words.{Row}
 use Rattle.loom_words.specs.declared.status.Status.{Status}
 use Rattle.loom_words.specs.declared.status.Status.TheVariants as answer
 use Rattle.loom_guard.specs.Checkpoints.{IsCheckpointOf}
-use Rattle.loom_guard.specs.Promise.{ComesTo, GuardComes, GuardedOf, KeptAt, KeptEnds, KeptPromise}
+use Rattle.loom_guard.specs.Moments.{StopsAt}
+use Rattle.loom_guard.specs.Promise.{ComesTo, GuardComes, GuardedOf, HasMoment, KeptAt, KeptEnds, KeptPromise}
 use Rattle.loom_guard.specs.Steps.{KeptRunEnds}
-use Rattle.loom_guard.specs.Vaults.{IsVaultRefusal, VaultMeanings}
+use Rattle.loom_guard.specs.Vaults.{IsVaultFault, IsVaultRefusal, VaultMeanings}
 use Rattle.loom_guard.specs.Ways.{Way, Guarding, Resuming, image_by, row_by, tells_by, verb_by}
 use Rattle.loom_guard.proofs.StatusLaws.{ends-plain, refusal-is}
 use Rattle.loom_guard.proofs.WayLaws.{image-left, way-is}
@@ -52,6 +53,12 @@ module _ (mid now : Meanings) (leaves : LeavesBut (Notes ∷ []) mid now) where
     },
   )
 
+  moment-now : {tells : Role → Bool} {before : Meanings} {row : Row} {lines : List Line} {g : Guarded} {stage : Stage} {last : ℕ} {status : Status} → (c : Course) → HasMoment tells before mid row lines g c stage last status → HasMoment tells before now row lines g c stage last status
+  moment-now {tells} {before} {row} {lines} {g} {stage} {last} {status} c x = record {
+    stopped = λ at. subst (λ (s : RoleState). StopsAt (tells Transcript) row.steps lines g c (before.roles Transcript).put s.put last status) (sym (same mid now leaves Transcript (λ e. cc))) (x.stopped at);
+    through = x.through;
+  }
+
   guarded-with : {P Q : List Line → Guarded → Course → Type 0} (image events : List ℕ) (steps first : ℕ) → ((lines : List Line) (g : Guarded) (c : Course) → P lines g c → Q lines g c) → GuardedOf image events steps first P → GuardedOf image events steps first Q
   guarded-with image events steps first f r = record { head = r.head; heap = r.heap; is = r.is; lines = r.lines; list = r.list; run = f _ _ _ r.run }
 
@@ -71,16 +78,17 @@ module _ (mid now : Meanings) (leaves : LeavesBut (Notes ∷ []) mid now) where
     starts = at.starts;
     judges = λ t here. subst (λ (bytes : List ℕ). JudgesImage (tells Work) status row.room bytes) (sym image) (at.judges t here);
     right = λ t work past. subst (λ (bytes : List ℕ). IsRightImage row.room bytes) (sym image) (at.right t work past);
+    last = at.last;
+    early = at.early;
+    stays = at.stays;
     run = λ t events work came.
-        subst (λ (bytes : List ℕ). GuardedOf bytes (bytes_of (now.roles Events)) row.steps (serial_of at.point) (GuardComes tells told before now new row stage status)) (sym image)
-        (subst (λ (s : RoleState). GuardedOf (image_by way mid at.start at.point) (bytes_of s) row.steps (serial_of at.point) (GuardComes tells told before now new row stage status)) (sym (same mid now leaves Events (λ e. cc)))
-        (guarded-with {P = GuardComes tells told before mid new row stage status} {Q = GuardComes tells told before now new row stage status} (image_by way mid at.start at.point) (bytes_of (mid.roles Events)) row.steps (serial_of at.point) (λ lines g c r. (comes-now of_run c r.0, r.1)) (at.run t events work came)));
-    stops = λ t. (let s = at.stops t in (
-      s.0,
-      keeps-gives at.start new.state s.0 _ _ (λ serial kept x image_told events work.
-          subst (λ (bytes : List ℕ). IsCheckpointOf bytes (bytes_of (now.roles Events)) row.steps (serial_of at.point) serial kept) (sym image)
-          (subst (λ (s : RoleState). IsCheckpointOf (image_by way mid at.start at.point) (bytes_of s) row.steps (serial_of at.point) serial kept) (sym (same mid now leaves Events (λ e. cc))) (x image_told events work))) s.1,
-    ));
+        subst (λ (bytes : List ℕ). GuardedOf bytes (bytes_of (now.roles Events)) row.steps (serial_of at.point) (GuardComes tells before now row stage at.last status)) (sym image)
+        (subst (λ (s : RoleState). GuardedOf (image_by way mid at.start at.point) (bytes_of s) row.steps (serial_of at.point) (GuardComes tells before now row stage at.last status)) (sym (same mid now leaves Events (λ e. cc)))
+        (guarded-with {P = GuardComes tells before mid row stage at.last status} {Q = GuardComes tells before now row stage at.last status} (image_by way mid at.start at.point) (bytes_of (mid.roles Events)) row.steps (serial_of at.point) (λ lines g c r. (comes-now of_run c r.0, moment-now c r.1)) (at.run t events work came)));
+    stops = λ t.
+        keeps-gives at.start new.state at.last _ _ (λ serial kept x image_told events work.
+        subst (λ (bytes : List ℕ). IsCheckpointOf bytes (bytes_of (now.roles Events)) row.steps (serial_of at.point) serial kept) (sym image)
+        (subst (λ (s : RoleState). IsCheckpointOf (image_by way mid at.start at.point) (bytes_of s) row.steps (serial_of at.point) serial kept) (sym (same mid now leaves Events (λ e. cc))) (x image_told events work))) (at.stops t);
   }
     where
       image : image_by way now at.start at.point ≡ image_by way mid at.start at.point
@@ -112,8 +120,8 @@ cut-comes tells before now row rose c goes begins (inl r) = inl (cut-run tells b
 cut-comes tells before now row rose c goes begins (inr w) = let e = w.0 in absurd (cc)
 
 module _ {way : Way} {told : Bool} {old new : VaultMeanings} (tells : Role → Bool) (before now : Meanings) (row : Row) (rose : Rose (before.faults Notes) (now.faults Notes)) where
-  cut-kept : {status : Status} → ((c : Course) → GoesThrough status c → IsParked c.ending) → Begins tells before now row rose status → KeptAt way tells told before now old new row Telling status → KeptAt way tells told before now old new row Telling (answer.WriteFault Notes (now.faults Notes))
-  cut-kept {status} goes begins at = record {
+  cut-kept : {status : Status} → (IsVaultFault status → ⊥) → ((c : Course) → GoesThrough status c → IsParked c.ending) → Begins tells before now row rose status → KeptAt way tells told before now old new row Telling status → KeptAt way tells told before now old new row Telling (answer.WriteFault Notes (now.faults Notes))
+  cut-kept {status} fault goes begins at = record {
     answer = tt;
     answered = answered-cut tells before now row rose;
     vault_cause = tt;
@@ -128,7 +136,10 @@ module _ {way : Way} {told : Bool} {old new : VaultMeanings} (tells : Role → B
     starts = at.starts;
     judges = λ t here. absurd (cc);
     right = at.right;
-    run = λ t events work came. (let r = at.run t events work came in record { head = r.head; heap = r.heap; is = r.is; lines = r.lines; list = r.list; run = (cut-comes tells before now row rose _ (goes _) begins r.run.0, r.run.1) });
+    last = at.last;
+    early = at.early;
+    stays = λ t none. at.stays t fault;
+    run = λ t events work came. (let r = at.run t events work came in record { head = r.head; heap = r.heap; is = r.is; lines = r.lines; list = r.list; run = (cut-comes tells before now row rose _ (goes _) begins r.run.0, record { stopped = λ at. absurd (cc); through = r.run.1.through }) });
     stops = at.stops;
   }
 
@@ -137,8 +148,8 @@ module _ {way : Way} {told : Bool} {old new : VaultMeanings} (tells : Role → B
 
   unsaid-kept : (stage : Stage) (status : Status) → IsOfRun status → (IsTrue (tells Notes) → PutPrefix (line_of status) (before.roles Notes) (now.roles Notes)) → KeptAt way tells told before now old new row stage status
       → (last : Stage) × KeptAt way tells told before now old new row last (unsaid status (now.faults Notes))
-  unsaid-kept stage (answer.Done ran) of_run put at = (Telling, cut-kept (λ c goes. parked tells before now row rose Next ran c.ending goes) (λ c goes told. inl (ran, goes, put told)) (telling stage (answer.Done ran) at (done-last stage ran (ends-plain stage (answer.Done ran) (λ count e. cc) at.answer))))
-  unsaid-kept stage (answer.Quit ran) of_run put at = (Telling, cut-kept (λ c goes. parked tells before now row rose Quit ran c.ending goes) (λ c goes told. inr (ran, goes, put told)) (telling stage (answer.Quit ran) at (quit-last stage ran (ends-plain stage (answer.Quit ran) (λ count e. cc) at.answer))))
+  unsaid-kept stage (answer.Done ran) of_run put at = (Telling, cut-kept (λ f. f) (λ c goes. parked tells before now row rose Next ran c.ending goes) (λ c goes told. inl (ran, goes, put told)) (telling stage (answer.Done ran) at (done-last stage ran (ends-plain stage (answer.Done ran) (λ count e. cc) at.answer))))
+  unsaid-kept stage (answer.Quit ran) of_run put at = (Telling, cut-kept (λ f. f) (λ c goes. parked tells before now row rose Quit ran c.ending goes) (λ c goes told. inr (ran, goes, put told)) (telling stage (answer.Quit ran) at (quit-last stage ran (ends-plain stage (answer.Quit ran) (λ count e. cc) at.answer))))
   unsaid-kept stage (answer.Made objects) of_run put at = absurd of_run
   unsaid-kept stage (answer.Listed objects) of_run put at = absurd of_run
   unsaid-kept stage (answer.Assembled objects) of_run put at = absurd of_run
@@ -161,7 +172,7 @@ module _ {way : Way} {told : Bool} {old new : VaultMeanings} (tells : Role → B
 
 -- ---- the promise
 
-no-else : {P : Type 0} (way : Way) → verb_by way ≡ Else → P
+pub no-else : {P : Type 0} (way : Way) → verb_by way ≡ Else → P
 no-else Guarding e = absurd (cc)
 no-else Resuming e = absurd (cc)
 

@@ -5,6 +5,7 @@ pub mod KeepingLaws
 pub mod KeptLaws
 pub mod LastLine
 pub mod LegLaws
+pub mod MomentLaws
 pub mod ReadingLaws
 pub mod ResumingLaws
 pub mod StatusLaws

@@ -1,5 +1,5 @@
 -- A leg over a host and a disk: what its memory leaves when it is wound up, and why the run ended.
-use Rattle.std.proofs.Common.{◌≡◌, ◌⊎◌, ℕ, ◌≤◌, Bool, true, false, List, ◌++◌, Ok, IsTrue, inl, inr, refl, sym, ◌∙◌, ap, subst, arith}
+use Rattle.std.proofs.Common.{◌≡◌, ◌⊎◌, ℕ, ◌+◌, ◌≤◌, Bool, true, false, List, ◌++◌, Ok, IsTrue, inl, inr, refl, sym, ◌∙◌, ap, subst, arith}
 use Rattle.long_names.specs.Heap.{Heap}
 use Rattle.long_names.specs.Kept.{kept, no_roots}
 use Rattle.long_names.specs.Thin.{IsThinner}
@@ -21,7 +21,7 @@ use Rattle.blue_model.specs.declared.step.Step.{Step}
 use Rattle.blue_model.specs.Cycle.{Ending, Parked, Stuck}
 use Rattle.blue_model.specs.Earlier.{course_with_earlier, ending_with_earlier, with_earlier, at_rest_after}
 use Rattle.blue_model.specs.Endings.{IsParked, IsParkedBy, OnParked}
-use Rattle.blue_model.specs.Guarded.{Guarded}
+use Rattle.blue_model.specs.Guarded.{Guarded, guarded_on}
 use Rattle.blue_model.specs.Loaded.{loaded}
 use Rattle.blue_model.specs.Logs.{Course}
 use Rattle.blue_model.specs.Machine.{Machine}
@@ -30,10 +30,11 @@ use Rattle.blue_model.proofs.StartLaws.{begin_leaves}
 use Rattle.machine_run.specs.States.{HasLongNames, model_state, state_held, state_left}
 use Rattle.machine_run.specs.declared.running.Finished.{Finished}
 use Rattle.machine_run.proofs.StateLaws.{left_held}
-use Rattle.guarded_run.specs.Course.{course_on, said_at}
+use Rattle.guarded_run.specs.Course.{course_on, said_at, serial_at}
 use Rattle.guarded_run.specs.Legs.{HasWhole, IsToKeep, guarded_first}
 use Rattle.guarded_run.proofs.CourseLaws.{on_none, said_begun, said_kept}
 use Rattle.guarded_run.proofs.LegLaws.{parked_same}
+use Rattle.guarded_run.proofs.SerialLaws.{serial_to_keep}
 use Rattle.guarded_run.proofs.WholeLaws.{kept_at_end, kept_stands}
 use Rattle.loom_memory.specs.declared.memory.LoomMemory.{LoomMemory}
 use Rattle.loom_memory.specs.Memory.{loom_told, IsSound}
@@ -51,8 +52,10 @@ use Rattle.loom_run.proofs.SavedLaws.{image-left, images-left}
 use Rattle.loom_run.proofs.UsesLaws.{left-then}
 use Rattle.loom_guard.specs.declared.legs.Leg.{Leg}
 use Rattle.loom_guard.specs.declared.legs.Leg.TheVariants as leg
+use Rattle.loom_guard.specs.Moments.{StopsAt}
+use Rattle.loom_guard.proofs.MomentLaws.{serial-first-leg, serial-later-leg}
 use Rattle.loom_guard.specs.Checkpoints.{HasDoneKeep}
-use Rattle.loom_guard.specs.Legs.{FromDisk, FromMemory, Halts, HaltsAt, HasTick, IsToGoOn, IsUnderWay, LegComes, LegLeaves, SetsOut, StopsRunning, told_since, WantsMemory}
+use Rattle.loom_guard.specs.Legs.{FromDisk, FromMemory, Halts, HaltsAt, HasTick, IsToGoOn, IsUnderWay, LegComes, LegLeaves, SetsOut, told_since}
 
 -- ---- frames
 
@@ -100,15 +103,19 @@ said-first events steps serial said state h =
 
 module _ (tells : Role → Bool) (before : Meanings) (row : Row) (first : Bool) (events : List Line) (serial : ℕ) (cpu : Cpu) (said : List ℕ) (state : State) (h : Heap) (g : Guarded) (c : Course) (few : cpu.ran ≤ row.steps) where
   -- where a leg sets out after so many bytecodes, and there is no memory for it
-  wanting : (now : Meanings) (ran : ℕ) → ran ≤ row.steps → (ran ≡ 0) ⊎ HasDoneKeep events g ran → (IsTrue (tells Transcript) → (course_on events row.steps g).said ran ≡ said) → (now.roles Transcript).put ≡ said → course_on events row.steps g ≡ course_with_earlier (before.roles Transcript).put c
-      → WantsMemory tells before now row events g answer.OutOfMemory c
-  wanting now ran low at was is same = record { status_is = refl; ran = ran; few = low; at = at; says = λ speaks. is ∙ sym (was speaks) ∙ ap (λ (d : Course). d.said ran) same }
+  wanting : (now : Meanings) (ran : ℕ) → ran ≤ row.steps → (ran ≡ 0) ⊎ HasDoneKeep events g ran → (IsTrue (tells Transcript) → (course_on events row.steps g).said ran ≡ said) → serial_at (guarded_on events ran g) ≡ serial → (now.roles Transcript).put ≡ said
+      → course_on events row.steps g ≡ course_with_earlier (before.roles Transcript).put c → HaltsAt Running tells before now row events g serial answer.OutOfMemory c
+  wanting now ran low at was kept is same =
+      let says : IsTrue (tells Transcript) → (now.roles Transcript).put ≡ (before.roles Transcript).put ++ c.said ran = λ speaks. is ∙ sym (was speaks) ∙ ap (λ (d : Course). d.said ran) same in
+      (inr (record { status_is = refl; ran = ran; few = low; at = at; says = says }), (ran, inl (record { few = low; said = says; kept = kept })))
 
-  wants-going : (now : Meanings) (b : Bool) → SetsOut b events g serial cpu (tells Transcript) said row.core state h → (now.roles Transcript).put ≡ said → course_on events row.steps g ≡ course_with_earlier (before.roles Transcript).put c → WantsMemory tells before now row events g answer.OutOfMemory c
-  wants-going now true out is same = wanting now 0 (omega arith) (inl refl) (λ speaks. subst (λ (x : Guarded). (course_on events row.steps x).said 0 ≡ said) (sym out) (said-first events row.steps serial said state h)) is same
-  wants-going now false out is same = wanting now cpu.ran few (inr (done-to-keep events g out.last out.before cpu out.parked out.keep)) (λ speaks. said-to-keep events row.steps g out.last out.before cpu out.parked out.keep ∙ sym (out.said_is speaks)) is same
+  wants-going : (now : Meanings) (b : Bool) → SetsOut b events g serial cpu (tells Transcript) said row.core state h → (now.roles Transcript).put ≡ said → course_on events row.steps g ≡ course_with_earlier (before.roles Transcript).put c → HaltsAt Running tells before now row events g serial answer.OutOfMemory c
+  wants-going now true out is same = wanting now 0 (omega arith) (inl refl) (λ speaks. subst (λ (x : Guarded). (course_on events row.steps x).said 0 ≡ said) (sym out) (said-first events row.steps serial said state h)) (serial-first-leg events serial said state h g 0 refl out) is same
+  wants-going now false out is same =
+      wanting now cpu.ran few (inr (done-to-keep events g out.last out.before cpu out.parked out.keep)) (λ speaks. said-to-keep events row.steps g out.last out.before cpu out.parked out.keep ∙ sym (out.said_is speaks))
+      (serial-later-leg events g serial cpu (tells Transcript) said row.core state h cpu.ran refl out) is same
 
-  pub wants-under-way : (now : Meanings) → (now.roles Transcript).put ≡ said → IsUnderWay tells before row first events serial cpu said state h g c → WantsMemory tells before now row events g answer.OutOfMemory c
+  pub wants-under-way : (now : Meanings) → (now.roles Transcript).put ≡ said → IsUnderWay tells before row first events serial cpu said state h g c → HaltsAt Running tells before now row events g serial answer.OutOfMemory c
   wants-under-way now is x = wants-going now first x.sets_out is x.course_is
 
 -- ---- what is kept and saved
@@ -175,9 +182,10 @@ pub room-of : {H : Type 0} (host : Ghosts H) (m : LoomMemory H) (row : Row) → 
 unfolding loom_told
 room-of host m row bounds = sym bounds.2
 
-pub stopped-at : {H : Type 0} (host : Ghosts H) (n : LoomMemory H) (row : Row) (before : Meanings) (c : Course) (status : Status) → WasStopped (told_since (before.roles Transcript).put (loom_told host n)) (loom_told host n) row status c → StopsRunning host.tells before (meanings host n.disk.host.now) row status c
+pub stopped-at : {H : Type 0} (host : Ghosts H) (n : LoomMemory H) (row : Row) (before : Meanings) (events : List Line) (g : Guarded) (serial : ℕ) (c : Course) (status : Status) → WasStopped (told_since (before.roles Transcript).put (loom_told host n)) (loom_told host n) row status c
+    → StopsAt (host.tells Transcript) row.steps events g c (before.roles Transcript).put (loom_told host n).transcript serial status → HaltsAt Running host.tells before (meanings host n.disk.host.now) row events g serial status c
 unfolding loom_told
-stopped-at host n row before c status was = record { stops = was.stops; says = was.says }
+stopped-at host n row before events g serial c status was moment = (inl (record { stops = was.stops; says = was.says }), moment)
 
 module _ {H : Type 0} (host : Ghosts H) (n : LoomMemory H) (row : Row) (before : Meanings) (events : List Line) (g : Guarded) (serial : ℕ) (now : Cpu) (c : Course)
     (work : IsTrue (host.tells Work)) (whole : HasWhole g) (same : course_on events row.steps g ≡ course_with_earlier (before.roles Transcript).put c) where
@@ -225,34 +233,41 @@ module _ {H : Type 0} (host : Ghosts H) (n : LoomMemory H) (row : Row) (before :
         )
 
     -- and why the run ended, where it couldn't be
-    stopped-keeping : (state : Words) (status : Status) → IsToGoOn events g serial t now state → now.ran ≤ row.steps → IsRefusal host.tells (meanings host n.disk.host.now) (meanings host k.disk.host.now) row Finishing status → StopsRunning host.tells before (meanings host k.disk.host.now) row status c
+    stopped-keeping : (state : Words) (status : Status) → IsToGoOn events g serial t now state → now.ran ≤ row.steps → IsRefusal host.tells (meanings host n.disk.host.now) (meanings host k.disk.host.now) row Finishing status
+        → HaltsAt Running host.tells before (meanings host k.disk.host.now) row events g serial status c
     unfolding loom_told
     stopped-keeping state status on few refused =
-        finishing-either (λ status. StopsRunning host.tells before (meanings host k.disk.host.now) row status c)
-        (λ count. record { stops = tt; says = λ speaks. (now.ran, few, at speaks) })
-        (λ place name. record { stops = tt; says = λ speaks. (now.ran, few, at speaks) })
+        finishing-either (λ status. HaltsAt Running host.tells before (meanings host k.disk.host.now) row events g serial status c)
+        (λ count. (inl (record { stops = tt; says = λ speaks. (now.ran, few, at speaks) }), (now.ran, inr (record { few = few; said = at; done = done; next = next }))))
+        (λ place name. (inl (record { stops = tt; says = λ speaks. (now.ran, few, at speaks) }), (now.ran, inr (record { few = few; said = at; done = done; next = next }))))
         status refused.answer
       where
+        done : HasDoneKeep events g now.ran
+        done = done-to-keep events g serial t now on.parked on.keep
+
+        next : serial_at (guarded_on events now.ran g) ≡ serial + 1
+        next = serial_to_keep events g serial t now on.parked on.keep
+
         at : IsTrue (host.tells Transcript) → (host.roles k.disk.host.now Transcript).put ≡ (before.roles Transcript).put ++ c.said now.ran
         at speaks = silent ∙ on.keep.stands.transcript speaks ∙ sym (said-to-keep events row.steps g serial t now on.parked on.keep) ∙ ap (λ (d : Course). d.said now.ran) same
 
     -- the stage at which it ended, by the leg
     pub unwound : (x : Leg) (status : Status) → LegComes events g serial t now row (Ok x) (before.roles Transcript).put c → now.ran ≤ row.steps → IsRefusal host.tells (meanings host n.disk.host.now) (meanings host k.disk.host.now) row Finishing status
-        → HaltsAt (stage-of x) host.tells before (meanings host k.disk.host.now) row events g status c
+        → HaltsAt (stage-of x) host.tells before (meanings host k.disk.host.now) row events g serial status c
     unfolding loom_told
-    unwound (leg.Kept state) status on few refused = inl (stopped-keeping state status on few refused)
-    unwound (leg.Ended finished) status came few refused = let went = came.0 in record { parked = parked-of finished.end finished.ran c.ending went.parked; fits = went.fits; said = λ speaks. silent ∙ went.said speaks }
+    unwound (leg.Kept state) status on few refused = stopped-keeping state status on few refused
+    unwound (leg.Ended finished) status came few refused = let went = came.0 in (record { parked = parked-of finished.end finished.ran c.ending went.parked; fits = went.fits; said = λ speaks. silent ∙ went.said speaks }, came.1)
 
 -- ---- over a host and a disk
 
 -- no memory was found for a leg: nothing was done
 pub no-memory : (tells : Role → Bool) (now : Meanings) (row : Row) (first : Bool) (events : List Line) (serial : ℕ) (cpu : Cpu) (state : Words) (h : Heap) → cpu.ran ≤ row.steps
-    → Halts tells now now row events (FromDisk tells row first events serial cpu (now.roles Transcript).put state h) answer.OutOfMemory
+    → Halts tells now now row events (FromDisk tells row first events serial cpu (now.roles Transcript).put state h) serial answer.OutOfMemory
 no-memory tells now row first events serial cpu state h few = record {
   stage = Running;
   late = inl refl;
   refusal = record { answer = tt; of_run = tt; ran = tt; cause = tt; whole = λ work damaged. damaged; limits = tt };
-  of_run = λ before g c from. inr (wants-under-way tells before row first events serial cpu (now.roles Transcript).put (model_state state) h g c few now refl from.1);
+  of_run = λ before g c from. wants-under-way tells before row first events serial cpu (now.roles Transcript).put (model_state state) h g c few now refl from.1;
 }
 
 -- a memory begins where a leg sets out over a disk
@@ -268,5 +283,5 @@ from-memory {H} host old now rest again x row first events serial cpu t same sti
       (subst (λ (h : H). IsUnderWay host.tells before row first events serial cpu (host.roles h Transcript).put (model_state x.state) (heap_on host h rest x.next) g c) (sym same) from.1)),
 )
 
-pub halts-from : (tells : Role → Bool) (old now : Meanings) (row : Row) (lines : List Line) (P Q : Meanings → Guarded → Course → Type 0) (status : Status) → ((before : Meanings) (g : Guarded) (c : Course) → Q before g c → P before g c) → Halts tells old now row lines P status → Halts tells old now row lines Q status
-halts-from tells old now row lines P Q status gives x = record { stage = x.stage; late = x.late; refusal = x.refusal; of_run = λ before g c from. x.of_run before g c (gives before g c from) }
+pub halts-from : (tells : Role → Bool) (old now : Meanings) (row : Row) (lines : List Line) (P Q : Meanings → Guarded → Course → Type 0) (serial : ℕ) (status : Status) → ((before : Meanings) (g : Guarded) (c : Course) → Q before g c → P before g c) → Halts tells old now row lines P serial status → Halts tells old now row lines Q serial status
+halts-from tells old now row lines P Q serial status gives x = record { stage = x.stage; late = x.late; refusal = x.refusal; of_run = λ before g c from. x.of_run before g c (gives before g c from) }

@@ -28,15 +28,17 @@ use Rattle.blue_model.specs.Cycle.{cycle}
 use Rattle.blue_model.specs.Earlier.{outcome_with_earlier, with_earlier}
 use Rattle.blue_model.specs.Guarded.{Guarded, Going, Broken, guarded_on}
 use Rattle.blue_model.specs.Logs.{Course}
-use Rattle.blue_model.specs.Machine.{Machine, LogRow, Outcome, Go, Halt, Spent}
+use Rattle.blue_model.specs.Machine.{Machine, LogRow, Outcome, Go, Halt, Spent, log_of}
 use Rattle.blue_model.specs.State.{State, name_in}
 use Rattle.blue_model.proofs.EarlierRules.{ignores-park}
 use Rattle.blue_model.proofs.EarlierTurns.{ignores-cycle}
+use Rattle.contexts.specs.Serves.{IsLogged}
 use Rattle.machine_run.specs.States.{model_state, state_left}
 use Rattle.machine_run.specs.declared.running.Finished.{Finished}
 use Rattle.guarded_run.specs.Course.{guarded_course, serial_at}
 use Rattle.guarded_run.specs.Legs.{guarded_first}
 use Rattle.guarded_run.proofs.EarlierLaws.{earlier_on, first_after, guarded_course_after, guarded_with_earlier}
+use Rattle.guarded_run.proofs.SerialLaws.{serial_to_keep}
 use Rattle.guarded_run.proofs.WholeLaws.{whole_first}
 use Rattle.checkpoint.specs.History.{Keeps}
 use Rattle.checkpoint.specs.Keeping.{serial_of}
@@ -51,10 +53,12 @@ use Rattle.loom_run.specs.Stages.{Stage, Opening, Reading, Listening, Making, Ru
 use Rattle.loom_run.specs.Steps.{CameThrough, IsOfRun, IsSameFile}
 use Rattle.loom_run.proofs.EndsLaws.{cause-since}
 use Rattle.loom_guard.specs.Checkpoints.{HasDoneKeep, IsCheckpoint}
-use Rattle.loom_guard.specs.Legs.{FromDisk, Halts, HaltsAt, IsKeptIn, LegLeaves}
+use Rattle.loom_guard.specs.Legs.{FromDisk, Halts, HaltsAt, IsKeptIn, LegLeaves, StopsRunning, WantsMemory}
 use Rattle.loom_guard.specs.Promise.{EndsKept}
 use Rattle.loom_guard.specs.Steps.{LegsStop}
+use Rattle.loom_guard.specs.Moments.{IsAfter, IsEither, IsKeeping, StopsAt}
 use Rattle.loom_guard.specs.Turns.{EndsKeeping, IsKeepRefusal, KeptHalts, TurnKeeps}
+use Rattle.loom_guard.specs.Vaults.{KeepsLast}
 use Rattle.loom_guard.specs.declared.guarded.Turn.{Turn}
 use Rattle.loom_guard.specs.declared.legs.Leg.{Leg}
 use Rattle.loom_guard.specs.declared.legs.Leg.TheVariants as legs
@@ -192,19 +196,23 @@ keeping-either P vault work damaged memory answer.NoCheckpoint ends = absurd end
 keeping-either P vault work damaged memory (answer.VaultBad place) ends = absurd ends
 
 -- whoever is told what was said by then is told what becomes of the run
-stops-keeping : (tells : Role → Bool) (before now : Meanings) (row : Row) (lines : List Line) (g : Guarded) (c : Course) (status : Status) → EndsKeeping status → (ran : ℕ) → ran ≤ row.steps → HasDoneKeep lines g ran → (IsTrue (tells Transcript) → (now.roles Transcript).put ≡ (before.roles Transcript).put ++ c.said ran) → HaltsAt Running tells before now row lines g status c
-stops-keeping tells before now row lines g c status ends ran few done said =
-    keeping-either (λ status. HaltsAt Running tells before now row lines g status c)
-    (λ count. inl (record { stops = tt; says = λ speaks. (ran, few, said speaks) }))
-    (λ count. inl (record { stops = tt; says = λ speaks. (ran, few, said speaks) }))
-    (λ place name. inl (record { stops = tt; says = λ speaks. (ran, few, said speaks) }))
-    (inr (record { status_is = refl; ran = ran; few = few; at = inr done; says = said }))
+stops-keeping : (tells : Role → Bool) (before now : Meanings) (row : Row) (lines : List Line) (g : Guarded) (c : Course) (serial : ℕ) (status : Status) → EndsKeeping status → (ran : ℕ) → ran ≤ row.steps → HasDoneKeep lines g ran → serial_at (guarded_on lines ran g) ≡ serial + 1
+    → (IsTrue (tells Transcript) → (now.roles Transcript).put ≡ (before.roles Transcript).put ++ c.said ran) → HaltsAt Running tells before now row lines g serial status c
+stops-keeping tells before now row lines g c serial status ends ran few done next said =
+    keeping-either (λ status. HaltsAt Running tells before now row lines g serial status c)
+    (λ count. (inl (record { stops = tt; says = λ speaks. (ran, few, said speaks) }), (ran, keeping)))
+    (λ count. (inl (record { stops = tt; says = λ speaks. (ran, few, said speaks) }), (ran, inr keeping)))
+    (λ place name. (inl (record { stops = tt; says = λ speaks. (ran, few, said speaks) }), (ran, inr keeping)))
+    (inr (record { status_is = refl; ran = ran; few = few; at = inr done; says = said }), (ran, inr keeping))
     status ends
+  where
+    keeping : IsKeeping (tells Transcript) row.steps lines g c (before.roles Transcript).put (now.roles Transcript).put serial ran
+    keeping = record { few = few; said = said; done = done; next = next }
 
 pub keep-halts : {H : Type 0} (host : Ghosts H) (old mid now : H) (vault before after : ℕ) (row : Row) (first : Bool) (events : List Line) (last : ℕ) (cpu then : Cpu) (said : List ℕ) (words state : Words) (h left : Heap) (status : Status)
     → ((role : Role) → host.faults old role ≤ host.faults mid role) → vault ≤ before → IsKeepRefusal host.tells (meanings host mid) (meanings host now) before after status → IsWorkRead host mid now → then.ran ≤ row.steps
     → ((begun : Meanings) (g : Guarded) (c : Course) → FromDisk host.tells row first events last cpu said words h begun g c → IsKeptIn host.tells (meanings host mid) row.core events g last then state left)
-    → KeptHalts host.tells (meanings host old) (meanings host now) vault after row events (FromDisk host.tells row first events last cpu said words h) status
+    → KeptHalts host.tells (meanings host old) (meanings host now) vault after row events (FromDisk host.tells row first events last cpu said words h) last status
 keep-halts host old mid now vault before after row first events last cpu then said words state h left status later vaults refused read few kept = record {
   stage = Running;
   late = inl refl;
@@ -217,7 +225,7 @@ keep-halts host old mid now vault before after row first events last cpu then sa
     limits = keeping-either (λ status. IsPastLimits row status) (λ count. tt) (λ count. tt) (λ place name. tt) tt status refused.ends;
   };
   caused = vault-since status vault before after vaults refused.caused;
-  halts = λ begun g c from. let k = kept begun g c from in stops-keeping host.tells begun (meanings host now) row events g c status refused.ends then.ran few (done-to-keep events g last k.told then k.parked k.keep) (said-then begun g c from k);
+  halts = λ begun g c from. let k = kept begun g c from in stops-keeping host.tells begun (meanings host now) row events g c last status refused.ends then.ran few (done-to-keep events g last k.told then k.parked k.keep) (serial_to_keep events g last k.told then k.parked k.keep) (said-then begun g c from k);
 } where
   said-then : (begun : Meanings) (g : Guarded) (c : Course) → FromDisk host.tells row first events last cpu said words h begun g c → IsKeptIn host.tells (meanings host mid) row.core events g last then state left
       → IsTrue (host.tells Transcript) → (host.roles now Transcript).put ≡ (begun.roles Transcript).put ++ c.said then.ran
@@ -226,8 +234,8 @@ keep-halts host old mid now vault before after row first events last cpu then sa
 
 -- ---- the leg ended the run
 
-pub leg-halts : (tells : Role → Bool) (old now : Meanings) (vault : ℕ) (row : Row) (lines : List Line) (P : Meanings → Guarded → Course → Type 0) (status : Status) → Halts tells old now row lines P status → KeptHalts tells old now vault vault row lines P status
-leg-halts tells old now vault row lines P status x = record {
+pub leg-halts : (tells : Role → Bool) (old now : Meanings) (vault : ℕ) (row : Row) (lines : List Line) (P : Meanings → Guarded → Course → Type 0) (serial : ℕ) (status : Status) → Halts tells old now row lines P serial status → KeptHalts tells old now vault vault row lines P serial status
+leg-halts tells old now vault row lines P serial status x = record {
   stage = x.stage;
   late = x.late;
   answer = ends-kept x.stage status x.refusal.answer;
@@ -251,15 +259,15 @@ file-read host old mid now same read = subst (IsSameFile (host.roles old Work)) 
 
 -- ---- the answers of a turn
 
-pub turn-refused : (began now : VaultState) (last : Option Point) (IsImage : ℕ → List ℕ → Type 0) (r : Result Turn Status) (e : Status) → IsErrAnd r (λ y. y ≡ e) → Keeps began now (serial_of last) IsImage → TurnKeeps began now last IsImage r
-turn-refused began now last IsImage r e is keeps =
+pub turn-refused : (began now : VaultState) (last : Option Point) (IsImage : ℕ → List ℕ → Type 0) (r : Result Turn Status) (e : Status) → IsErrAnd r (λ y. y ≡ e) → Keeps began now (serial_of last) IsImage → KeepsLast now (serial_of last) e → TurnKeeps began now last IsImage r
+turn-refused began now last IsImage r e is keeps has =
     let q = err_from_is_err_and r is in
-    subst (λ (x : Result Turn Status). TurnKeeps began now last IsImage x) (sym (q.1 ∙ ap (λ y. Err y) q.2)) keeps
+    subst (λ (x : Result Turn Status). TurnKeeps began now last IsImage x) (sym (q.1 ∙ ap (λ y. Err y) q.2)) (keeps, has)
 
 -- the legs of a run that began at an earlier moment
-pub legs-stop : (tells : Role → Bool) (start old now : Meanings) (first before after : ℕ) (row : Row) (lines : List Line) (P : Meanings → Guarded → Course → Type 0) (c : Course) (status : Status) → ((role : Role) → start.faults role ≤ old.faults role) → first ≤ before
-    → KeptHalts tells old now before after row lines P status → (g : Guarded) → (IsTrue (tells Work) → P start g c) → LegsStop tells start now first after row lines g c status
-legs-stop tells start old now first before after row lines P c status later vaults x g from = record {
+pub legs-stop : (tells : Role → Bool) (start old now : Meanings) (first before after : ℕ) (row : Row) (lines : List Line) (P : Meanings → Guarded → Course → Type 0) (c : Course) (last : ℕ) (status : Status) → ((role : Role) → start.faults role ≤ old.faults role) → first ≤ before
+    → KeptHalts tells old now before after row lines P last status → (g : Guarded) → (IsTrue (tells Work) → P start g c) → LegsStop tells start now first after row lines g c last status
+legs-stop tells start old now first before after row lines P c last status later vaults x g from = record {
   stage = x.stage;
   late = x.late;
   answer = x.answer;
@@ -319,57 +327,6 @@ checkpoint-first events steps first said state h serial image k = record {
   parks : (n : Machine) × (park cycled.0 ≡ Go tt n k.more) × (k.parked ≡ with_earlier said n)
   parks = earlier-go said tt k.parked k.more (park cycled.0) (sym (ignores-park.same said cycled.0) ∙ ap park (sym cycled.2) ∙ k.parks)
 
-done-first : (events : List Line) (first : ℕ) (said : List ℕ) (state : State) (h : Heap) (ran : ℕ) → HasDoneKeep events (guarded_first first said state h) ran → HasDoneKeep events (guarded_first first [] state h) ran
-done-first events first said state h ran k = record {
-  earlier = k.earlier;
-  ran_is = k.ran_is;
-  before = going.0;
-  last = k.last;
-  rows = k.rows;
-  was = going.1;
-  machine = cycled.0;
-  log = k.log;
-  did = cycled.1;
-} where
-  g : Guarded
-  g = guarded_first first [] state h
-
-  going : (n : Machine) × (guarded_on events k.earlier g ≡ Going Next n k.last k.rows) × (k.before ≡ with_earlier said n)
-  going = earlier-going said k.before k.last k.rows (guarded_on events k.earlier g) (sym (earlier_on events k.earlier said g) ∙ ap (guarded_on events k.earlier) (sym (first_after first said state h)) ∙ k.was)
-
-  cycled : (n : Machine) × (cycle events going.0 ≡ Go Keep n k.log) × (k.machine ≡ with_earlier said n)
-  cycled = earlier-go said Keep k.machine k.log (cycle events going.0) (sym ((ignores-cycle events).same said going.0) ∙ ap (cycle events) (sym going.2) ∙ k.did)
-
-halts-first : (stage : Stage) (tells : Role → Bool) (before now : Meanings) (row : Row) (events : List Line) (first : ℕ) (said : List ℕ) (state : State) (h : Heap) (status : Status) (c : Course)
-    → HaltsAt stage tells before now row events (guarded_first first said state h) status c → HaltsAt stage tells before now row events (guarded_first first [] state h) status c
-halts-first Running tells before now row events first said state h status c (inl x) = inl x
-halts-first Running tells before now row events first said state h status c (inr w) = inr record { status_is = w.status_is; ran = w.ran; few = w.few; at = by w.at; says = w.says }
-  where
-    by : (w.ran ≡ 0) ⊎ HasDoneKeep events (guarded_first first said state h) w.ran → (w.ran ≡ 0) ⊎ HasDoneKeep events (guarded_first first [] state h) w.ran
-    by (inl none) = inl none
-    by (inr done) = inr (done-first events first said state h w.ran done)
-halts-first Finishing tells before now row events first said state h status c x = x
-halts-first Opening tells before now row events first said state h status c x = x
-halts-first Reading tells before now row events first said state h status c x = x
-halts-first Listening tells before now row events first said state h status c x = x
-halts-first Making tells before now row events first said state h status c x = x
-halts-first Saving tells before now row events first said state h status c x = x
-halts-first Drawing tells before now row events first said state h status c x = x
-halts-first Telling tells before now row events first said state h status c x = x
-
--- so it is with why the legs of a run were stopped
-pub stop-first : (tells : Role → Bool) (before now : Meanings) (faults later : ℕ) (row : Row) (events : List Line) (first : ℕ) (said : List ℕ) (state : State) (h : Heap) (c : Course) (status : Status)
-    → LegsStop tells before now faults later row events (guarded_first first said state h) c status → LegsStop tells before now faults later row events (guarded_first first [] state h) c status
-stop-first tells before now faults later row events first said state h c status x = record {
-  stage = x.stage;
-  late = x.late;
-  answer = x.answer;
-  of_run = x.of_run;
-  answered = x.answered;
-  caused = x.caused;
-  halts = λ work. halts-first x.stage tells before now row events first said state h status c (x.halts work);
-}
-
 serial-earlier : (z : List ℕ) (g : Guarded) → serial_at (guarded_with_earlier z g) ≡ serial_at g
 serial-earlier z (Going end m serial rows) = refl
 serial-earlier z (Broken stage m serial why log) = refl
@@ -380,3 +337,118 @@ serial-first events steps first said state h =
     ap (λ (g : Guarded). serial_at (guarded_on events steps g)) (first_after first said state h)
     ∙ ap serial_at (earlier_on events steps said (guarded_first first [] state h))
     ∙ serial-earlier said (guarded_on events steps (guarded_first first [] state h))
+
+-- the bytecode that did 97, and what the machine had said behind it
+done-both : (events : List Line) (first : ℕ) (said : List ℕ) (state : State) (h : Heap) (ran : ℕ) → (k : HasDoneKeep events (guarded_first first said state h) ran) → (d : HasDoneKeep events (guarded_first first [] state h) ran) × (k.machine ≡ with_earlier said d.machine)
+done-both events first said state h ran k = (
+  record {
+    earlier = k.earlier;
+    ran_is = k.ran_is;
+    before = going.0;
+    last = k.last;
+    rows = k.rows;
+    was = going.1;
+    machine = cycled.0;
+    log = k.log;
+    did = cycled.1;
+  },
+  cycled.2,
+) where
+  g : Guarded
+  g = guarded_first first [] state h
+
+  going : (n : Machine) × (guarded_on events k.earlier g ≡ Going Next n k.last k.rows) × (k.before ≡ with_earlier said n)
+  going = earlier-going said k.before k.last k.rows (guarded_on events k.earlier g) (sym (earlier_on events k.earlier said g) ∙ ap (guarded_on events k.earlier) (sym (first_after first said state h)) ∙ k.was)
+
+  cycled : (n : Machine) × (cycle events going.0 ≡ Go Keep n k.log) × (k.machine ≡ with_earlier said n)
+  cycled = earlier-go said Keep k.machine k.log (cycle events going.0) (sym ((ignores-cycle events).same said going.0) ∙ ap (cycle events) (sym going.2) ∙ k.did)
+
+abbrev done-first : (events : List Line) (first : ℕ) (said : List ℕ) (state : State) (h : Heap) (ran : ℕ) → HasDoneKeep events (guarded_first first said state h) ran → HasDoneKeep events (guarded_first first [] state h) ran
+done-first events first said state h ran k = (done-both events first said state h ran k).0
+
+-- parking says nothing of what was said
+log-earlier : {A : Type 0} (z : List ℕ) (o : Outcome A) → log_of (outcome_with_earlier z o) ≡ log_of o
+log-earlier z (Go a m log) = refl
+log-earlier z (Halt c log) = refl
+log-earlier z (Spent log) = refl
+
+parked-first : (events : List Line) (first : ℕ) (said : List ℕ) (state : State) (h : Heap) (ran : ℕ) → (k : HasDoneKeep events (guarded_first first said state h) ran) → log_of (park k.machine) ≡ log_of (park (done-first events first said state h ran k).machine)
+parked-first events first said state h ran k =
+    let d = done-both events first said state h ran k in
+    ap (λ (m : Machine). log_of (park m)) d.1 ∙ ap (λ (o : Outcome (Unit {0})). log_of o) (ignores-park.same said d.0.machine) ∙ log-earlier said (park d.0.machine)
+
+-- to which bytecode the last checkpoint belongs
+module _ (speaks : Bool) (steps : ℕ) (events : List Line) (first : ℕ) (said : List ℕ) (state : State) (h : Heap) (c : Course) (old new : List ℕ) (last : ℕ) where
+  after-first : (ran : ℕ) → IsAfter speaks steps events (guarded_first first said state h) c old new last ran → IsAfter speaks steps events (guarded_first first [] state h) c old new last ran
+  after-first ran x = record { few = x.few; said = x.said; kept = sym (serial-first events ran first said state h) ∙ x.kept }
+
+  abbrev keeping-first : (ran : ℕ) → IsKeeping speaks steps events (guarded_first first said state h) c old new last ran → IsKeeping speaks steps events (guarded_first first [] state h) c old new last ran
+  keeping-first ran x = record { few = x.few; said = x.said; done = done-first events first said state h ran x.done; next = sym (serial-first events ran first said state h) ∙ x.next }
+
+  either-first : IsEither speaks steps events (guarded_first first said state h) c old new last → IsEither speaks steps events (guarded_first first [] state h) c old new last
+  either-first x = (
+    x.0,
+    elim x.1 [
+      | inl after ↦ inl (after-first x.0 after)
+      | inr keeping ↦ inr (keeping-first x.0 keeping)
+    ],
+  )
+
+  moment-first : (status : Status) → StopsAt speaks steps events (guarded_first first said state h) c old new last status → StopsAt speaks steps events (guarded_first first [] state h) c old new last status
+  moment-first (answer.Stuck cause ran) x = after-first ran x
+  moment-first (answer.NamesSpent ran) x = after-first ran x
+  moment-first (answer.CoreFull ran need) (inl x) = inl (after-first ran x)
+  moment-first (answer.CoreFull ran need) (inr x) = inr (keeping-first ran x.0, subst (λ (rows : List LogRow). IsLogged need rows) (parked-first events first said state h ran x.0.done) x.1)
+  moment-first (answer.WorkFull live room) x = (x.0, x.1, after-first x.0 x.2)
+  moment-first (answer.WorkFault count) x = either-first x
+  moment-first (answer.Damaged place name) x = either-first x
+  moment-first answer.OutOfMemory x = either-first x
+  moment-first (answer.WriteFault role count) x = (x.0, record { few = x.1.few; said = x.1.said; kept = sym (serial-first events x.0 first said state h) ∙ x.1.kept })
+  moment-first (answer.VaultFault count) x = (x.0, keeping-first x.0 x.1)
+  moment-first (answer.Done ran) x = tt
+  moment-first (answer.Quit ran) x = tt
+  moment-first (answer.Made objects) x = tt
+  moment-first (answer.Listed objects) x = tt
+  moment-first (answer.Assembled objects) x = tt
+  moment-first (answer.Usage word) x = tt
+  moment-first (answer.ImageBad rule place) x = tt
+  moment-first (answer.EventsBad line) x = tt
+  moment-first (answer.TextBad line rule) x = tt
+  moment-first (answer.ReadFault role count) x = tt
+  moment-first answer.NoCheckpoint x = tt
+  moment-first (answer.VaultBad place) x = tt
+
+running-first : (tells : Role → Bool) (before now : Meanings) (row : Row) (events : List Line) (first : ℕ) (said : List ℕ) (state : State) (h : Heap) (status : Status) (c : Course)
+    → StopsRunning tells before now row status c ⊎ WantsMemory tells before now row events (guarded_first first said state h) status c → StopsRunning tells before now row status c ⊎ WantsMemory tells before now row events (guarded_first first [] state h) status c
+running-first tells before now row events first said state h status c (inl x) = inl x
+running-first tells before now row events first said state h status c (inr w) = inr record { status_is = w.status_is; ran = w.ran; few = w.few; at = by w.at; says = w.says }
+  where
+    by : (w.ran ≡ 0) ⊎ HasDoneKeep events (guarded_first first said state h) w.ran → (w.ran ≡ 0) ⊎ HasDoneKeep events (guarded_first first [] state h) w.ran
+    by (inl none) = inl none
+    by (inr done) = inr (done-first events first said state h w.ran done)
+
+halts-first : (stage : Stage) (tells : Role → Bool) (before now : Meanings) (row : Row) (events : List Line) (first : ℕ) (said : List ℕ) (state : State) (h : Heap) (last : ℕ) (status : Status) (c : Course)
+    → HaltsAt stage tells before now row events (guarded_first first said state h) last status c → HaltsAt stage tells before now row events (guarded_first first [] state h) last status c
+halts-first Running tells before now row events first said state h last status c x =
+    (running-first tells before now row events first said state h status c x.0, moment-first (tells Transcript) row.steps events first said state h c (before.roles Transcript).put (now.roles Transcript).put last status x.1)
+halts-first Finishing tells before now row events first said state h last status c x = (x.0, sym (serial-first events row.steps first said state h) ∙ x.1)
+halts-first Opening tells before now row events first said state h last status c x = x
+halts-first Reading tells before now row events first said state h last status c x = x
+halts-first Listening tells before now row events first said state h last status c x = x
+halts-first Making tells before now row events first said state h last status c x = x
+halts-first Saving tells before now row events first said state h last status c x = x
+halts-first Drawing tells before now row events first said state h last status c x = x
+halts-first Telling tells before now row events first said state h last status c x = x
+
+-- so it is with why the legs of a run were stopped
+pub stop-first : (tells : Role → Bool) (before now : Meanings) (faults later : ℕ) (row : Row) (events : List Line) (first : ℕ) (said : List ℕ) (state : State) (h : Heap) (c : Course) (last : ℕ) (status : Status)
+    → LegsStop tells before now faults later row events (guarded_first first said state h) c last status → LegsStop tells before now faults later row events (guarded_first first [] state h) c last status
+stop-first tells before now faults later row events first said state h c last status x = record {
+  stage = x.stage;
+  late = x.late;
+  answer = x.answer;
+  of_run = x.of_run;
+  answered = x.answered;
+  caused = x.caused;
+  halts = λ work. halts-first x.stage tells before now row events first said state h last status c (x.halts work);
+}

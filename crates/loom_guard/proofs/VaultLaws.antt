@@ -1,5 +1,5 @@
 -- A vault that was opened: new, or as it was left.
-use Rattle.std.proofs.Common.{◌≡◌, ◌≤◌, ℕ, List, [], ◌∷◌, ◌++◌, Option, Result, Ok, Err, None, true, false, inl, inr, is_err, length, refl, slice_index, sym, ◌∙◌, ap, subst, arith}
+use Rattle.std.proofs.Common.{◌≡◌, ◌<◌, ◌≤◌, ℕ, List, [], ◌∷◌, ◌++◌, Option, Result, Ok, Err, None, true, false, inl, inr, is_err, length, refl, slice_index, sym, ◌∙◌, ap, subst, arith}
 use Rattle.std.proofs.lemmas.Bool.{false≢true}
 use Rattle.checkpoint.specs.History.{HasSerial}
 use Rattle.checkpoint.specs.Keeping.{HasSame, IsLast, serial_of}
@@ -8,11 +8,11 @@ use Rattle.checkpoint.specs.Vault.{Extends, IsEmpty, IsOpened, MayLeave, Opened,
 use Rattle.checkpoint.specs.declared.point.Point.{Point}
 use Rattle.checkpoint.proofs.HistoryLaws.{keeps-still}
 use Rattle.checkpoint.proofs.MomentLaws.{empty-opened, moment-all}
-use Rattle.loom_guard.specs.Vaults.{HasLast, IsKept, IsNew, LeavesVault}
+use Rattle.loom_guard.specs.Vaults.{HasLast, IsEmptied, IsKept, IsNew, LeavesVault, SECOND_GATE}
 use Rattle.loom_guard.specs.Ways.{Guarding}
 
-pub new-opened : {T E : Type 0} (text : List ℕ) (result : Result T E) (a b c : VaultState) → is_err result ≡ false → IsOpened true text result a b → Extends b c → (IsEmpty b → Throughout b c (λ bytes. found bytes ≡ None)) → IsNew a c
-new-opened {T = T} {E = E} text (Ok x) a b c fine o extends none = elim o.calls [
+emptied-opened : {T E : Type 0} (text : List ℕ) (result : Result T E) (a b c : VaultState) → is_err result ≡ false → IsOpened true text result a b → Extends b c → (IsEmpty b → Throughout b c (λ bytes. found bytes ≡ None)) → IsEmptied a c
+emptied-opened {T = T} {E = E} text (Ok x) a b c fine o extends none = elim o.calls [
   | inl opens ↦ record {
     opened = b;
     began = o.began;
@@ -22,7 +22,11 @@ new-opened {T = T} {E = E} text (Ok x) a b c fine o extends none = elim o.calls 
   }
   | inr nothing ↦ absurd (false≢true nothing.0)
 ]
-new-opened text (Err e) a b c fine o extends none = absurd (false≢true (sym fine))
+emptied-opened text (Err e) a b c fine o extends none = absurd (false≢true (sym fine))
+
+-- and both gates were written
+pub new-opened : {T E : Type 0} (text : List ℕ) (result : Result T E) (a b c : VaultState) → is_err result ≡ false → IsOpened true text result a b → Extends b c → (IsEmpty b → Throughout b c (λ bytes. found bytes ≡ None)) → SECOND_GATE < length (contents_of c) → IsNew a c
+new-opened {T = T} {E = E} text result a b c fine o extends none gates = record { emptied = emptied-opened {T = T} {E = E} text result a b c fine o extends none; gates = gates }
 
 module _ {T E : Type 0} (text : List ℕ) (result : Result T E) (a b c : VaultState) (o : IsOpened false text result a b) where
   pub contents-opened : contents_of b ≡ contents_of a
@@ -69,7 +73,7 @@ unopened {T = T} {E = E} text (Err e) a b err o = elim o.calls [
 
 -- it had no failure until then
 pub new-left : {T E : Type 0} (text : List ℕ) (result : Result T E) (a b c : VaultState) → is_err result ≡ false → IsOpened true text result a b → Extends b c → (IsEmpty b → Throughout b c (λ bytes. found bytes ≡ None)) → LeavesVault Guarding a c
-new-left {T = T} {E = E} text result a b c fine o extends none = inl (new-opened {T = T} {E = E} text result a b c fine o extends none)
+new-left {T = T} {E = E} text result a b c fine o extends none = inl (emptied-opened {T = T} {E = E} text result a b c fine o extends none)
 
 stays : (s : VaultState) → Throughout s s (MayLeave s)
 stays s k late bytes may = subst (λ (m : VaultState). MayLeave m bytes) (moment-all k s late) may

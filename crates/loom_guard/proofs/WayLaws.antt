@@ -1,5 +1,5 @@
 -- What a host tells of the roles that a command has.
-use Rattle.std.proofs.Common.{◌≡◌, ◌≢◌, Bool, None, Some, Option, IsTrue, inl, inr, refl, ap, List}
+use Rattle.std.proofs.Common.{◌≡◌, ◌≢◌, ℕ, Bool, None, Some, Option, IsTrue, inl, inr, refl, ap, List}
 use Rattle.loom_host.specs.declared.outside.Role.{Role}
 use Rattle.loom_host.specs.declared.outside.Role.TheVariants.{Image, Events, Work, Saved, Display, Transcript, Notes}
 use Rattle.blue_model.specs.Logs.{Course}
@@ -12,10 +12,11 @@ use Rattle.loom_run.specs.Steps.{IsRefusal}
 use Rattle.loom_run.proofs.UsesLaws.{never}
 use Rattle.loom_words.specs.Words.{Row}
 use Rattle.loom_words.specs.declared.status.Status.{Status}
-use Rattle.loom_guard.specs.Promise.{ComesTo}
+use Rattle.loom_guard.specs.Promise.{ComesTo, HasMoment}
 use Rattle.blue_model.specs.declared.event.Line.{Line}
 use Rattle.blue_model.specs.Guarded.{Guarded}
 use Rattle.loom_guard.specs.Ways.{Way, Guarding, Resuming, image_by, imageless, tells_by, verb_by}
+use Rattle.loom_guard.proofs.MomentLaws.{moment-fewer}
 
 pub told-imageless : (tells : Role → Bool) (role : Role) → IsTrue (imageless tells role) → IsTrue (tells role)
 told-imageless tells Image h = never h
@@ -76,3 +77,9 @@ module _ (way : Way) (tells : Role → Bool) (before now : Meanings) (row : Row)
     image = r.image;
   }
   comes-by lines g stage status c (inr w) = inr (w.0, record { status_is = w.1.status_is; ran = w.1.ran; few = w.1.few; at = w.1.at; says = λ told. w.1.says (by-told way tells Transcript (λ e. cc) told) })
+
+  pub moment-by : (lines : List Line) (g : Guarded) (c : Course) (stage : Stage) (last : ℕ) (status : Status) → HasMoment (tells_by way tells) before now row lines g c stage last status → HasMoment tells before now row lines g c stage last status
+  moment-by lines g c stage last status x = record {
+    stopped = λ at. moment-fewer (tells_by way tells Transcript) (tells Transcript) (by-told way tells Transcript (λ e. cc)) row.steps lines g c (before.roles Transcript).put (now.roles Transcript).put last status (x.stopped at);
+    through = x.through;
+  }

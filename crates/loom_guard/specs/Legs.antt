@@ -20,8 +20,10 @@ use Rattle.contexts.specs.Keeping.{is_kept}
 use Rattle.machine_run.specs.Run.{HaltsAs, GoesThrough}
 use Rattle.machine_run.specs.States.{model_state, state_held, state_left}
 use Rattle.machine_run.specs.declared.running.Halted.{Halted}
+use Rattle.machine_run.specs.declared.running.Reason.{Reason}
+use Rattle.machine_run.specs.declared.running.Reason.TheVariants.{ByStop, NoMemory}
 use Rattle.guarded_run.specs.Course.{course_on, serial_at}
-use Rattle.guarded_run.specs.Legs.{HasWhole, IsToKeep, guarded_first}
+use Rattle.guarded_run.specs.Legs.{HasWhole, IsToKeep, KeepsSerial, guarded_first}
 use Rattle.loom_words.specs.Words.{Row}
 use Rattle.loom_words.specs.declared.status.Status.{Status}
 use Rattle.loom_words.specs.declared.status.Status.TheVariants.{OutOfMemory}
@@ -30,6 +32,7 @@ use Rattle.loom_run.specs.Meanings.{Meanings}
 use Rattle.loom_run.specs.Stages.{Stage, Running, Finishing}
 use Rattle.loom_run.specs.Steps.{BeginsImage, CameThrough, IsRefusal, WasStopped, WentThrough}
 use Rattle.loom_guard.specs.Checkpoints.{HasDoneKeep}
+use Rattle.loom_guard.specs.Moments.{StopsAt}
 use Rattle.loom_guard.specs.declared.legs.Leg.{Leg}
 use Rattle.loom_guard.specs.declared.legs.Leg.TheVariants.{Kept, Ended}
 
@@ -70,6 +73,16 @@ abbrev pub LegAs : List Line → ℕ → Guarded → ℕ → Told → Cpu → Re
 LegAs events steps g serial new now (Ok (Kept state)) c = IsToGoOn events g serial new now state
 LegAs events steps g serial new now (Ok (Ended finished)) c = GoesThrough new finished c × (serial_at (guarded_on events steps g) ≡ serial)
 LegAs events steps g serial new now (Err halted) c = HaltsAs halted.why halted.ran steps new c
+
+-- Where a leg stopped, its serial is that of the model's last checkpoint, or the checkpoint after it wasn't kept. Where there was no memory for the picture, all that
+-- the machine says was said.
+abbrev pub KeepsSerialBy : List Line → Guarded → ℕ → ℕ → Reason → Type 0
+KeepsSerialBy events g serial ran (ByStop stop) = KeepsSerial events g serial ran (Err stop)
+KeepsSerialBy events g serial ran NoMemory = serial_at (guarded_on events ran g) ≡ serial
+
+pub record LegStops (events : List Line) (steps : ℕ) (g : Guarded) (serial : ℕ) (new : Told) (halted : Halted) : Type 0 where
+  pub serial_is : KeepsSerialBy events g serial halted.ran halted.why
+  pub says : halted.why ≡ NoMemory → IsTrue new.speaks → new.transcript ≡ (course_on events steps g).said halted.ran
 
 -- and over that of two levels: c is its course with nothing said before, and this had been said when it began
 abbrev pub LegComes : List Line → Guarded → ℕ → Told → Cpu → Row → Result Leg Status → List ℕ → Course → Type 0
@@ -148,18 +161,23 @@ pub record StopsFinishing (tells : Role → Bool) (before now : Meanings) (row :
   pub fits : OnParked c.ending (λ m. m.largest ≤ row.core)
   pub said : IsTrue (tells Transcript) → (now.roles Transcript).put ≡ (before.roles Transcript).put ++ said_in c.ending
 
--- what is said of the run, by the stage at which it ended
-abbrev pub HaltsAt : Stage → (Role → Bool) → Meanings → Meanings → Row → List Line → Guarded → Status → Course → Type 0
-HaltsAt Running tells before now row lines g status c = StopsRunning tells before now row status c ⊎ WantsMemory tells before now row lines g status c
-HaltsAt Finishing tells before now row lines g status c = StopsFinishing tells before now row c
-HaltsAt _ tells before now row lines g status c = ⊥
+-- to which bytecode the checkpoint of this serial belongs, by what was put to Transcript
+abbrev pub StopsBetween : (Role → Bool) → Meanings → Meanings → Row → List Line → Guarded → ℕ → Status → Course → Type 0
+StopsBetween tells before now row lines g serial status c = StopsAt (tells Transcript) row.steps lines g c (before.roles Transcript).put (now.roles Transcript).put serial status
 
--- A run from one moment to another ended at one of these two stages, with this answer. Where P says of which guarded run, it is what becomes of that.
-pub record Halts (tells : Role → Bool) (old now : Meanings) (row : Row) (lines : List Line) (P : Meanings → Guarded → Course → Type 0) (status : Status) : Type 0 where
+-- What is said of the run, by the stage at which it ended, where this is the serial of its last checkpoint.
+abbrev pub HaltsAt : Stage → (Role → Bool) → Meanings → Meanings → Row → List Line → Guarded → ℕ → Status → Course → Type 0
+HaltsAt Running tells before now row lines g serial status c = (StopsRunning tells before now row status c ⊎ WantsMemory tells before now row lines g status c) × StopsBetween tells before now row lines g serial status c
+HaltsAt Finishing tells before now row lines g serial status c = StopsFinishing tells before now row c × (serial_at (guarded_on lines row.steps g) ≡ serial)
+HaltsAt _ tells before now row lines g serial status c = ⊥
+
+-- A run from one moment to another ended at one of these two stages, with this answer. Where P says of which guarded run, it is what becomes of that,
+-- whose last checkpoint has this serial.
+pub record Halts (tells : Role → Bool) (old now : Meanings) (row : Row) (lines : List Line) (P : Meanings → Guarded → Course → Type 0) (serial : ℕ) (status : Status) : Type 0 where
   pub stage : Stage
   pub late : (stage ≡ Running) ⊎ (stage ≡ Finishing)
   pub refusal : IsRefusal tells old now row stage status
-  pub of_run : (before : Meanings) (g : Guarded) (c : Course) → P before g c → HaltsAt stage tells before now row lines g status c
+  pub of_run : (before : Meanings) (g : Guarded) (c : Course) → P before g c → HaltsAt stage tells before now row lines g serial status c
 
 -- one that set out in a leg over a memory that tells this, or over a host that tells Work, from this heap
 abbrev pub FromMemory : (Role → Bool) → Row → Bool → List Line → ℕ → Cpu → Told → Words → Meanings → Guarded → Course → Type 0

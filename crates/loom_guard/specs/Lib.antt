@@ -2,6 +2,7 @@ pub mod Checkpoints
 pub mod Completes
 pub mod Headline
 pub mod Legs
+pub mod Moments
 pub mod Promise
 pub mod Steps
 pub mod Turns

@@ -3,7 +3,7 @@
 use Rattle.std.specs.Prelude.{◌≡◌, ◌⊎◌, ℕ, ◌≤◌, Bool, List, [], ◌∷◌, Option, None, IfSome, IsTrue, IsFalse, IsSome}
 use Rattle.long_names.specs.Heap.{Heap}
 use Rattle.loom_host.specs.declared.outside.Role.{Role}
-use Rattle.loom_host.specs.declared.outside.Role.TheVariants.{Image, Events, Work, Notes}
+use Rattle.loom_host.specs.declared.outside.Role.TheVariants.{Image, Events, Work, Transcript, Notes}
 use Rattle.image_format.specs.declared.opening.ImageHead.{ImageHead}
 use Rattle.blue_model.specs.declared.event.Line.{Line}
 use Rattle.blue_model.specs.Guarded.{Guarded, guarded_on}
@@ -23,10 +23,11 @@ use Rattle.loom_words.specs.declared.status.Status.TheVariants.{ReadFault, Vault
 use Rattle.loom_run.specs.Ends.{AreEvents, AttachedOnce, HasBegun, IsAnswered, IsImageOf, IsRightImage, JudgesImage, NotedBy, ReadsAt, RunsTo, bytes_of, word_for}
 use Rattle.loom_run.specs.Meanings.{Meanings, IsLeft, LeavesBut}
 use Rattle.loom_run.specs.Promise.{Promise}
-use Rattle.loom_run.specs.Stages.{Stage, Reading, Running, Finishing, Ends, passes, reaches, stage_of}
+use Rattle.loom_run.specs.Stages.{Stage, Reading, Running, Ends, passes, reaches, stage_of}
 use Rattle.loom_guard.specs.Checkpoints.{IsCheckpointOf}
 use Rattle.loom_guard.specs.Legs.{WantsMemory}
-use Rattle.loom_guard.specs.Vaults.{Finds, HasLast, IsFrom, IsVaultCaused, IsVaultRefusal, LeavesVault, OpenedOnce, VaultMeanings}
+use Rattle.loom_guard.specs.Moments.{StopsAt}
+use Rattle.loom_guard.specs.Vaults.{Finds, IsFrom, IsVaultCaused, IsVaultRefusal, KeepsLast, LeavesVault, OpenedOnce, VaultMeanings}
 use Rattle.loom_guard.specs.Ways.{Way, Guarding, Resuming, image_by, is_told, row_by, tells_by, verb_by}
 
 -- ---- the run
@@ -41,11 +42,15 @@ EndsKept stage status = Ends stage status
 abbrev pub ComesTo : (Role → Bool) → Meanings → Meanings → Row → List Line → Guarded → Stage → Status → Course → Type 0
 ComesTo tells before now row lines g stage status c = RunsTo tells before now row stage status c ⊎ ((stage ≡ Running) × WantsMemory tells before now row lines g status c)
 
--- That; and where it went through and its memory was wound up, as behind Done and Quit, the vault's checkpoint is the last that the model's run g kept,
--- and a stop leaves that one.
-abbrev pub GuardComes : (Role → Bool) → Bool → Meanings → Meanings → VaultMeanings → Row → Stage → Status → List Line → Guarded → Course → Type 0
-GuardComes tells told before now new row stage status lines g c =
-    ComesTo tells before now row lines g stage status c × (IsTrue told → IsTrue (passes Finishing stage) → HasLast new.state (serial_at (guarded_on lines row.steps g)))
+-- Where the run g stopped while its machine ran, the checkpoint that was answered last, which has this serial, and what was put to Transcript belong to one
+-- bytecode. Where it went through, that is the last checkpoint that it came to.
+pub record HasMoment (tells : Role → Bool) (before now : Meanings) (row : Row) (lines : List Line) (g : Guarded) (c : Course) (stage : Stage) (last : ℕ) (status : Status) : Type 0 where
+  pub stopped : stage ≡ Running → StopsAt (tells Transcript) row.steps lines g c (before.roles Transcript).put (now.roles Transcript).put last status
+  pub through : IsTrue (passes Running stage) → serial_at (guarded_on lines row.steps g) ≡ last
+
+-- both, where the checkpoint of this serial was answered last
+abbrev pub GuardComes : (Role → Bool) → Meanings → Meanings → Row → Stage → ℕ → Status → List Line → Guarded → Course → Type 0
+GuardComes tells before now row stage last status lines g c = ComesTo tells before now row lines g stage status c × HasMoment tells before now row lines g c stage last status
 
 -- The bytes are an image and an event list, and P holds of the guarded run that they begin and of its course.
 pub record GuardedOf (image events : List ℕ) (steps first : ℕ) (P : List Line → Guarded → Course → Type 0) : Type 0 where
@@ -83,12 +88,18 @@ pub record KeptAt (way : Way) (tells : Role → Bool) (told : Bool) (before now 
   -- The bytes that it begins with are refused as those of an image are: exactly with the first rule that they break, or for the objects that they state.
   pub judges : IsTrue (is_told way tells told) → stage ≡ Reading → JudgesImage (tells Work) result row.room (image_by way now start point)
   pub right : IsTrue (is_told way tells told) → IsTrue (tells Work) → IsTrue (passes Reading stage) → IsRightImage row.room (image_by way now start point)
-  -- What comes of the machine's run is the model's guarded run over one unbounded memory of long names, and so are the bytes of Transcript, Saved and Display.
+  -- The serial of the checkpoint that was answered last, which is that of the one that it begins with before its machine ran. At each end but a failure of the vault
+  -- the vault has that checkpoint, and a stop leaves it.
+  pub last : ℕ
+  pub early : IsTrue (passes stage Running) → last ≡ serial_of point
+  pub stays : IsTrue told → KeepsLast new.state last result
+  -- What comes of the machine's run is the model's guarded run over one unbounded memory of long names, and so are the bytes of Transcript, Saved and Display. The
+  -- checkpoint that was answered last and what was said belong to the same bytecode.
   pub run : IsTrue (is_told way tells told) → IsTrue (tells Events) → IsTrue (tells Work) → IsTrue (reaches Running stage)
-      → GuardedOf (image_by way now start point) (bytes_of (now.roles Events)) row.steps (serial_of point) (GuardComes tells told before now new row stage result)
+      → GuardedOf (image_by way now start point) (bytes_of (now.roles Events)) row.steps (serial_of point) (GuardComes tells before now row stage last result)
   -- The theorem on stops. From when that checkpoint was found, a stop at any moment leaves the checkpoint that was answered last, or the one that was under
   -- way, whole, and no other; the serial of the one that was answered last never falls. Each that this run kept is the model's guarded run's, at a bytecode that did 97.
-  pub stops : IsTrue told → (last : ℕ) × Keeps start new.state last (λ serial kept.
+  pub stops : IsTrue told → Keeps start new.state last (λ serial kept.
       IsTrue (is_told way tells told) → IsTrue (tells Events) → IsTrue (tells Work) → IsCheckpointOf (image_by way now start point) (bytes_of (now.roles Events)) row.steps (serial_of point) serial kept)
 
 -- A guarded or resumed run of right words ended: the vault was refused, and nothing else was done but the line on Notes, and the vault is left so; or the run

@@ -8,6 +8,7 @@ use Rattle.blue_model.specs.declared.event.Line.{Line}
 use Rattle.blue_model.specs.Guarded.{Guarded, guarded_on}
 use Rattle.blue_model.specs.Logs.{Course}
 use Rattle.checkpoint.specs.History.{Keeps}
+use Rattle.checkpoint.specs.Vault.{VaultState}
 use Rattle.guarded_run.specs.Course.{serial_at}
 use Rattle.loom_run.specs.Ends.{HasRun, IsAnswered, IsRightImage, JudgesImage}
 use Rattle.loom_run.specs.Meanings.{Meanings, IsLeft, LeavesBut}
@@ -19,8 +20,8 @@ use Rattle.loom_words.specs.declared.status.Status.{Status}
 use Rattle.loom_words.specs.declared.status.Status.TheVariants.{ImageBad, OutOfMemory, ReadFault}
 use Rattle.loom_guard.specs.Checkpoints.{IsCheckpoint}
 use Rattle.loom_guard.specs.Legs.{HaltsAt}
-use Rattle.loom_guard.specs.Promise.{ComesTo, EndsKept, KeptAt}
-use Rattle.loom_guard.specs.Vaults.{HasLast, IsVaultCaused, IsVaultRefusal, LeavesVault, OpenedOnce, VaultMeanings}
+use Rattle.loom_guard.specs.Promise.{ComesTo, EndsKept, HasMoment, KeptAt}
+use Rattle.loom_guard.specs.Vaults.{HasLast, IsVaultCaused, IsVaultRefusal, KeepsLast, LeavesVault, OpenedOnce, VaultMeanings}
 use Rattle.loom_guard.specs.Ways.{Way, imageless}
 
 -- ---- what was read
@@ -46,15 +47,20 @@ abbrev pub later_roles : List Role
 later_roles = Transcript ∷ Saved ∷ Display ∷ Work ∷ []
 
 -- Why the legs of a guarded run ended before its end, of which c is the course: while the machine ran, or where its last memory was wound up. A fault of the
--- vault, or want of memory for a checkpoint, may come while it runs.
-pub record LegsStop (tells : Role → Bool) (before now : Meanings) (faults later : ℕ) (row : Row) (lines : List Line) (g : Guarded) (c : Course) (status : Status) : Type 0 where
+-- vault, or want of memory for a checkpoint, may come while it runs. The last checkpoint has this serial.
+pub record LegsStop (tells : Role → Bool) (before now : Meanings) (faults later : ℕ) (row : Row) (lines : List Line) (g : Guarded) (c : Course) (last : ℕ) (status : Status) : Type 0 where
   pub stage : Stage
   pub late : (stage ≡ Running) ⊎ (stage ≡ Finishing)
   pub answer : EndsKept stage status
   pub of_run : IsOfRun status
   pub answered : IsAnswered tells before now row status
   pub caused : IsVaultCaused status faults later
-  pub halts : IsTrue (tells Work) → HaltsAt stage tells before now row lines g status c
+  pub halts : IsTrue (tells Work) → HaltsAt stage tells before now row lines g last status c
+
+-- The legs of a guarded run went through: the checkpoint of this serial is the last that the run came to, and the vault has it.
+pub record LegsKeep (work told : Bool) (vault : VaultState) (lines : List Line) (steps : ℕ) (g : Guarded) (last : ℕ) : Type 0 where
+  pub has : IsTrue told → HasLast vault last
+  pub serial : IsTrue work → serial_at (guarded_on lines steps g) ≡ last
 
 -- A guarded run g, of which c is the course, ended while its machine ran or later, and nothing was put to Notes. The vault was at first as `old` says.
 pub record GuardedEnds (tells : Role → Bool) (told : Bool) (before now : Meanings) (old new : VaultMeanings) (row : Row) (lines : List Line) (g : Guarded) (c : Course) (result : Status) : Type 0 where
@@ -67,8 +73,10 @@ pub record GuardedEnds (tells : Role → Bool) (told : Bool) (before now : Meani
   pub caused : IsVaultCaused result old.faults new.faults
   pub untold : IsLeft Notes before now
   pub comes : IsTrue (tells Work) → ComesTo tells before now row lines g stage result c
-  pub kept : IsTrue (tells Work) → IsTrue told → IsTrue (passes Finishing stage) → HasLast new.state (serial_at (guarded_on lines row.steps g))
-  pub stops : IsTrue told → (last : ℕ) × Keeps old.state new.state last (λ serial kept. IsTrue (tells Work) → IsCheckpoint lines row.steps g serial kept)
+  pub last : ℕ
+  pub moment : IsTrue (tells Work) → HasMoment tells before now row lines g c stage last result
+  pub stays : IsTrue told → KeepsLast new.state last result
+  pub stops : IsTrue told → Keeps old.state new.state last (λ serial kept. IsTrue (tells Work) → IsCheckpoint lines row.steps g serial kept)
 
 -- ---- the whole, before its last line
 

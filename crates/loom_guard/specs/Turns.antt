@@ -16,8 +16,8 @@ use Rattle.blue_model.specs.Logs.{Course}
 use Rattle.contexts.specs.Keeping.{is_kept}
 use Rattle.guarded_run.specs.Course.{serial_at}
 use Rattle.checkpoint.specs.History.{Keeps}
-use Rattle.checkpoint.specs.Keeping.{IsLast, serial_of}
-use Rattle.checkpoint.specs.Vault.{VaultState}
+use Rattle.checkpoint.specs.Keeping.{HasSame, IsLast, serial_of}
+use Rattle.checkpoint.specs.Vault.{MayLeave, VaultState, contents_of}
 use Rattle.checkpoint.specs.declared.point.Point.{Point}
 use Rattle.checkpoint.specs.declared.fault.VaultFault.{VaultFault as Fault}
 use Rattle.checkpoint.specs.declared.fault.VaultFault.TheVariants as fault
@@ -32,7 +32,7 @@ use Rattle.loom_run.specs.Steps.{CameThrough, IsOfRun}
 use Rattle.loom_guard.specs.Checkpoints.{IsCheckpoint}
 use Rattle.loom_guard.specs.Legs.{FromDisk, HaltsAt}
 use Rattle.loom_guard.specs.Promise.{EndsKept}
-use Rattle.loom_guard.specs.Vaults.{IsVaultCaused}
+use Rattle.loom_guard.specs.Vaults.{IsVaultCaused, IsVaultFault, KeepsLast}
 use Rattle.loom_guard.specs.declared.guarded.Turn.{Turn}
 use Rattle.loom_guard.specs.declared.guarded.Turn.TheVariants as turn
 
@@ -58,18 +58,22 @@ pub record IsKeepRefusal (tells : Role → Bool) (old now : Meanings) (before af
   pub whole : IsTrue (tells Work) → IsDamaged status → ⊥
   pub caused : IsVaultCaused status before after
 
+-- Where it wasn't a failure of the vault, a stop leaves the checkpoint that was there before, whole, and no other.
+abbrev pub LeavesChecked : VaultState → VaultState → Status → Type 0
+LeavesChecked old new status = (IsVaultFault status → ⊥) → (bytes : List ℕ) → MayLeave new bytes → HasSame (contents_of old) bytes
+
 -- ---- the run ended
 
 -- Why a run from one moment to another ended, while the machine ran or where its last memory was wound up: by an answer of its stage, with its cause. Where P says
--- of which guarded run, it is what becomes of that.
-pub record KeptHalts (tells : Role → Bool) (old now : Meanings) (before after : ℕ) (row : Row) (lines : List Line) (P : Meanings → Run → Course → Type 0) (status : Status) : Type 0 where
+-- of which guarded run, it is what becomes of that, whose last checkpoint has this serial.
+pub record KeptHalts (tells : Role → Bool) (old now : Meanings) (before after : ℕ) (row : Row) (lines : List Line) (P : Meanings → Run → Course → Type 0) (serial : ℕ) (status : Status) : Type 0 where
   pub stage : Stage
   pub late : (stage ≡ Running) ⊎ (stage ≡ Finishing)
   pub answer : EndsKept stage status
   pub of_run : IsOfRun status
   pub answered : IsAnswered tells old now row status
   pub caused : IsVaultCaused status before after
-  pub halts : (first : Meanings) (g : Run) (c : Course) → P first g c → HaltsAt stage tells first now row lines g status c
+  pub halts : (first : Meanings) (g : Run) (c : Course) → P first g c → HaltsAt stage tells first now row lines g serial status c
 
 -- ---- a turn
 
@@ -77,11 +81,12 @@ pub record KeptHalts (tells : Role → Bool) (old now : Meanings) (before after 
 abbrev pub IsKeptImage : Bool → List Line → ℕ → Run → ℕ → List ℕ → Type 0
 IsKeptImage work events steps g serial image = IsTrue work → IsCheckpoint events steps g serial image
 
--- what the vault kept then, where the last checkpoint was this one: after a turn that was answered it is the one that it has, as `recover` says it
+-- What the vault kept then, where the last checkpoint was this one: after a turn that was answered it is the one that it has, as `recover` says it; after any other
+-- that wasn't ended by a failure of the vault it has that one still.
 abbrev pub TurnKeeps : VaultState → VaultState → Option Point → (ℕ → List ℕ → Type 0) → Result Turn Status → Type 0
 TurnKeeps began now last IsImage (Ok (turn.Kept rest loaded point)) = Keeps began now point.serial IsImage × IsLast now (Some point)
 TurnKeeps began now last IsImage (Ok (turn.Ended rest ended)) = Keeps began now (serial_of last) IsImage × IsLast now last
-TurnKeeps began now last IsImage (Err status) = Keeps began now (serial_of last) IsImage
+TurnKeeps began now last IsImage (Err status) = Keeps began now (serial_of last) IsImage × KeepsLast now (serial_of last) status
 
 -- The machine was kept, under the next serial, and the disk has what the next leg begins with; or the run ended. P says which run the turn is of.
 abbrev pub TurnLeaves : {H : Type 0} → Ghosts H → H → Row → List Line → ℕ → Cpu → (Meanings → Run → Course → Type 0) → Turn → Type 0

@@ -1,5 +1,5 @@
 -- The vault of a guarded or a resumed run: what it means at one moment, how it is opened, and why it is refused.
-use Rattle.std.specs.Prelude.{◌≡◌, ◌⊎◌, ℕ, Bool, true, false, List, [], ◌∷◌, ◌++◌, Option, None, Some, IfSome, IsTrue, IsSome}
+use Rattle.std.specs.Prelude.{◌≡◌, ◌⊎◌, ℕ, ◌<◌, Bool, true, false, List, [], ◌∷◌, ◌++◌, Option, None, Some, IfSome, IsTrue, IsSome, length}
 use Rattle.long_names.specs.Counting.{Rose, counted}
 use Rattle.checkpoint.specs.History.{serial_in}
 use Rattle.checkpoint.specs.Keeping.{HasSame}
@@ -28,12 +28,21 @@ pub record OpenedOnce (word : List ℕ) (old new : VaultState) : Type 0 where
   pub name : IfSome new.name (λ name. name ≡ word)
 
 -- It was opened afresh, which leaves nothing of what was there, and no stop since the opening leaves a checkpoint.
-pub record IsNew (old start : VaultState) : Type 0 where
+pub record IsEmptied (old start : VaultState) : Type 0 where
   pub opened : VaultState
   pub began : opened.began ≡ old.began
   pub calls : opened.calls ≡ old.calls ++ Opened true [] ∷ []
   pub extends : Extends opened start
   pub none : Throughout opened start (λ bytes. found bytes ≡ None)
+
+-- the place of the second gate; the first one's is 0
+abbrev pub SECOND_GATE : ℕ
+SECOND_GATE = 512
+
+-- And both gates were written: an opening alone leaves no byte.
+pub record IsNew (old start : VaultState) : Type 0 where
+  pub emptied : IsEmptied old start
+  pub gates : SECOND_GATE < length (contents_of start)
 
 -- It holds what it held, and a stop until then leaves what it could leave before.
 pub record IsKept (old start : VaultState) : Type 0 where
@@ -50,12 +59,20 @@ abbrev pub IsFrom : Way → VaultState → Option Point → Type 0
 IsFrom Guarding old point = point ≡ None
 IsFrom Resuming old point = (bad_place (contents_of old) ≡ None) × (found (contents_of old) ≡ point) × IsSome point
 
--- ---- a run went through
+-- ---- the last checkpoint
 
 -- It has the checkpoint of this serial, none where that is 0, and so it has after a stop: the same one, whole.
 pub record HasLast (s : VaultState) (serial : ℕ) : Type 0 where
   pub has : serial_in (contents_of s) ≡ serial
   pub outlives : (bytes : List ℕ) → MayLeave s bytes → HasSame (contents_of s) bytes
+
+abbrev pub IsVaultFault : Status → Type 0
+IsVaultFault (VaultFault count) = Unit {0}
+IsVaultFault _ = ⊥
+
+-- so it is at each end but a failure of the vault
+abbrev pub KeepsLast : VaultState → ℕ → Status → Type 0
+KeepsLast s serial status = (IsVaultFault status → ⊥) → HasLast s serial
 
 -- ---- it is refused
 
@@ -86,5 +103,5 @@ pub record IsUnopened (old new : VaultState) : Type 0 where
 -- What a run that is refused leaves of it. A resumed one leaves what the vault held, and what a stop could leave of it. Where a guarded one has opened it
 -- afresh, nothing of what was there is left, and no stop since then leaves a checkpoint.
 abbrev pub LeavesVault : Way → VaultState → VaultState → Type 0
-LeavesVault Guarding old new = IsNew old new ⊎ IsUnopened old new
+LeavesVault Guarding old new = IsEmptied old new ⊎ IsUnopened old new
 LeavesVault Resuming old new = IsKept old new

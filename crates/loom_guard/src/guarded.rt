@@ -6,7 +6,7 @@ ghost use Rattle.disk_objects.specs.Disk.{disk_room};
 ghost use Rattle.image_reader.specs.Loaded.{heap_on};
 ghost use Rattle.image_memory.specs.Image.{HasEnded, HasImage};
 ghost use Rattle.blue_model.specs.Endings.{HasCounted};
-ghost use Rattle.blue_model.specs.Guarded.{Guarded, guarded_on};
+ghost use Rattle.blue_model.specs.Guarded.{Guarded};
 ghost use Rattle.blue_model.specs.Logs.{Course};
 ghost use Rattle.contexts.specs.Keeping.{is_kept};
 ghost use Rattle.machine_run.specs.States.{model_state};
@@ -14,7 +14,7 @@ ghost use Rattle.checkpoint.specs.History.{Keeps};
 ghost use Rattle.checkpoint.specs.Keeping as keeping;
 ghost use Rattle.checkpoint.specs.Keeping.{IsLast};
 ghost use Rattle.checkpoint.specs.Vault.{VaultState};
-ghost use Rattle.guarded_run.specs.Course.{guarded_course, serial_at};
+ghost use Rattle.guarded_run.specs.Course.{guarded_course};
 ghost use Rattle.guarded_run.specs.Legs.{guarded_first};
 ghost use Rattle.loom_words.specs.Command.{HasLimits, row_for};
 ghost use Rattle.loom_run.specs.Meanings.{LeavesBut, Meanings, meanings};
@@ -22,9 +22,9 @@ ghost use Rattle.loom_run.specs.Stages.{Running, roles_at};
 ghost use Rattle.loom_run.specs.Steps.{CameThrough, IsSameFile};
 ghost use Rattle.loom_guard.specs.Checkpoints.{IsCheckpoint};
 ghost use Rattle.loom_guard.specs.Legs.{FromDisk};
-ghost use Rattle.loom_guard.specs.Steps.{LegsStop};
+ghost use Rattle.loom_guard.specs.Steps.{LegsKeep, LegsStop};
 ghost use Rattle.loom_guard.specs.Turns.{IsKeptImage, KeptHalts, TurnKeeps, TurnLeaves};
-ghost use Rattle.loom_guard.specs.Vaults.{HasLast};
+ghost use Rattle.loom_guard.specs.Vaults.{KeepsLast};
 
 use crate::keeping::keep_point;
 use crate::legs::Leg;
@@ -37,6 +37,7 @@ use image_reader::Loaded;
 use loom_host::Host;
 use loom_run::steps::Ended;
 use loom_words::{Command, Status};
+use machine_run::Observer;
 use std::alloc::Global;
 
 /// What a turn came to: a leg, and the checkpoint behind it.
@@ -59,7 +60,7 @@ fn serial_of(last: Option<Point>) -> u64
 }
 
 // A leg, and a checkpoint where the machine is to be kept.
-fn take_turn<H: Host, V: Vault>(
+fn take_turn<H: Host, V: Vault, O: Observer>(
     alloc: Global,
     host: &mut H,
     rest: DiskRest,
@@ -70,6 +71,7 @@ fn take_turn<H: Host, V: Vault>(
     vault: &mut V,
     last: Option<Point>,
     command: &Command<'_>,
+    observer: &mut O,
 ) -> Result<Turn, Status>
     requires limits { HasLimits command.now }
     requires image { HasImage H.Host host.old rest loaded.now }
@@ -87,7 +89,7 @@ fn take_turn<H: Host, V: Vault>(
     ensures others { LeavesBut (roles_at Running) (meanings H.Host host.old) (meanings H.Host host.new) }
     ensures later { V.faults vault.old ≤ V.faults vault.new }
     ensures ends { IfErr result (KeptHalts H.tells (meanings H.Host host.old) (meanings H.Host host.new) (V.faults vault.old) (V.faults vault.new) (row_for command.now) events.now
-        (FromDisk H.tells (row_for command.now) first events.now (keeping.serial_of last) cpu.old (H.roles host.old role.Transcript).put loaded.now.state (heap_on H.Host host.old rest loaded.now.next))) }
+        (FromDisk H.tells (row_for command.now) first events.now (keeping.serial_of last) cpu.old (H.roles host.old role.Transcript).put loaded.now.state (heap_on H.Host host.old rest loaded.now.next)) (keeping.serial_of last)) }
 {
     let (rest, leg, next) = run_stretch(
         alloc,
@@ -99,6 +101,7 @@ fn take_turn<H: Host, V: Vault>(
         events,
         serial_of(last),
         command,
+        observer,
     )?;
     match leg {
         Leg::Kept(state) => {
@@ -111,7 +114,7 @@ fn take_turn<H: Host, V: Vault>(
 
 /// Runs the machine under an event list, leg by leg: over the disk's image to the first checkpoint, which is kept in the vault, and from what was kept to the
 /// next, and so on to the end of so many bytecodes, or to the one that ends the machine. `last` is the vault's checkpoint, as it is found.
-pub(crate) fn run_legs<H: Host, V: Vault>(
+pub(crate) fn run_legs<H: Host, V: Vault, O: Observer>(
     alloc: Global,
     host: &mut H,
     rest: DiskRest,
@@ -120,6 +123,7 @@ pub(crate) fn run_legs<H: Host, V: Vault>(
     vault: &mut V,
     last: Option<Point>,
     command: &Command<'_>,
+    observer: &mut O,
 ) -> Result<(DiskRest, Ended), Status>
     requires limits { HasLimits command.now }
     requires image { HasImage H.Host host.old rest loaded.now }
@@ -130,12 +134,13 @@ pub(crate) fn run_legs<H: Host, V: Vault>(
         (guarded_course events.now command.now.steps (keeping.serial_of last) (model_state loaded.now.state) (heap_on H.Host host.old rest loaded.now.next)))) }
     ensures counted { IfOk result (λ r. HasCounted r.1.finished.end r.1.finished.ran command.now.steps) }
     ensures parked { IfOk result (λ r. is_kept r.1.finished.end ≡ false) }
-    ensures kept { IsTrue (H.tells role.Work) → IsTrue V.tells → OnOk result (HasLast (V.state vault.new) (serial_at (guarded_on events.now command.now.steps (guarded_first (keeping.serial_of last) [] (model_state loaded.now.state) (heap_on H.Host host.old rest loaded.now.next))))) }
-    ensures stops { IsTrue V.tells → (n : ℕ) × Keeps (V.state vault.old) (V.state vault.new) n (λ serial image. IsTrue (H.tells role.Work)
-        → IsCheckpoint events.now command.now.steps (guarded_first (keeping.serial_of last) [] (model_state loaded.now.state) (heap_on H.Host host.old rest loaded.now.next)) serial image) }
-    ensures ends { IfErr result (LegsStop H.tells (meanings H.Host host.old) (meanings H.Host host.new) (V.faults vault.old) (V.faults vault.new) (row_for command.now) events.now
+    ensures legs { (n : ℕ) × (IsTrue V.tells → Keeps (V.state vault.old) (V.state vault.new) n (λ serial image. IsTrue (H.tells role.Work)
+        → IsCheckpoint events.now command.now.steps (guarded_first (keeping.serial_of last) [] (model_state loaded.now.state) (heap_on H.Host host.old rest loaded.now.next)) serial image))
+        × OnOk result (LegsKeep (H.tells role.Work) V.tells (V.state vault.new) events.now command.now.steps (guarded_first (keeping.serial_of last) [] (model_state loaded.now.state) (heap_on H.Host host.old rest loaded.now.next)) n)
+        × IfErr result (λ status. (IsTrue V.tells → KeepsLast (V.state vault.new) n status)
+        × LegsStop H.tells (meanings H.Host host.old) (meanings H.Host host.new) (V.faults vault.old) (V.faults vault.new) (row_for command.now) events.now
         (guarded_first (keeping.serial_of last) [] (model_state loaded.now.state) (heap_on H.Host host.old rest loaded.now.next))
-        (guarded_course events.now command.now.steps (keeping.serial_of last) (model_state loaded.now.state) (heap_on H.Host host.old rest loaded.now.next))) }
+        (guarded_course events.now command.now.steps (keeping.serial_of last) (model_state loaded.now.state) (heap_on H.Host host.old rest loaded.now.next)) n status) }
     ensures file { IsTrue (H.tells role.Work) → IsSameFile (H.roles host.old role.Work) (H.roles host.new role.Work) }
     ensures others { LeavesBut (roles_at Running) (meanings H.Host host.old) (meanings H.Host host.new) }
     ensures vault_later { V.faults vault.old ≤ V.faults vault.new }
@@ -147,7 +152,7 @@ pub(crate) fn run_legs<H: Host, V: Vault>(
     let mut first = true;
     'turns: loop {
         match take_turn(
-            alloc, host, disk, &image, &mut cpu, first, events, vault, kept, command,
+            alloc, host, disk, &image, &mut cpu, first, events, vault, kept, command, observer,
         ) {
             Ok(Turn::Kept(rest, loaded, point)) => {
                 disk = rest;

@@ -17,7 +17,7 @@ ghost use Rattle.machine_run.specs.States.{model_state, state_left};
 ghost use Rattle.checkpoint.specs.Keeping.{HasEither, IsLast, serial_of};
 ghost use Rattle.checkpoint.specs.Vault.{Extends, Throughout, contents_of};
 ghost use Rattle.loom_run.specs.Meanings.{meanings};
-ghost use Rattle.loom_guard.specs.Turns.{IsKeepRefusal, status_by_vault};
+ghost use Rattle.loom_guard.specs.Turns.{IsKeepRefusal, LeavesChecked, status_by_vault};
 
 use checkpoint::{Point, Vault, VaultFault, keep};
 use disk_objects::{DiskObjects, DiskRest};
@@ -41,7 +41,7 @@ fn status_of_vault(fault: VaultFault) -> Status
     }
 }
 
-// Keeps what the disk has.
+// Keeps what the disk has. What a start on it loads is read first, so that whatever fails behind the checkpoint is a call on the vault.
 fn keep_disk<H: Host, V: Vault>(
     alloc: Global,
     disk: &mut DiskObjects<'_, H>,
@@ -59,6 +59,7 @@ fn keep_disk<H: Host, V: Vault>(
     ensures last { IsTrue V.tells → IfOk result (λ r. IsLast (V.state vault.new) (Some r.1)) }
     ensures stops { IsTrue V.tells → Throughout (V.state vault.old) (V.state vault.new) (HasEither (contents_of (V.state vault.old)) (serial_of last + 1)
         (λ text. IsTrue (H.tells role.Work) → text ≡ saved_text (disk_heap H.Host disk.old.host.now disk.old.rest next) state.now)) }
+    ensures left { IsTrue V.tells → IfErr result (LeavesChecked (V.state vault.old) (V.state vault.new)) }
     ensures extends { IsTrue V.tells → Extends (V.state vault.old) (V.state vault.new) }
     ensures read { IsWorkRead H.Host disk.old.host.now disk.new.host.now }
     ensures rest { disk.new.rest ≡ disk.old.rest }
@@ -66,12 +67,12 @@ fn keep_disk<H: Host, V: Vault>(
     ensures later { V.faults vault.old ≤ V.faults vault.new }
     ensures refused { IfErr result (IsKeepRefusal H.tells (meanings H.Host disk.old.host.now) (meanings H.Host disk.new.host.now) (V.faults vault.old) (V.faults vault.new)) }
 {
-    let point = match keep(alloc, disk, vault, last, next, state) {
-        Ok(point) => point,
-        Err(fault) => return Err(status_of_vault(fault)),
+    let kept = match kept_state(disk, state) {
+        Ok(kept) => kept,
+        Err(fault) => return Err(status_of_vault(VaultFault::Disk(fault))),
     };
-    match kept_state(disk, state) {
-        Ok(kept) => {
+    match keep(alloc, disk, vault, last, next, state) {
+        Ok(point) => {
             let loaded = Loaded {
                 objects: disk.len(),
                 next,
@@ -79,7 +80,7 @@ fn keep_disk<H: Host, V: Vault>(
             };
             Ok((loaded, point))
         }
-        Err(fault) => Err(status_of_vault(VaultFault::Disk(fault))),
+        Err(fault) => Err(status_of_vault(fault)),
     }
 }
 
@@ -105,6 +106,7 @@ pub(crate) fn keep_point<H: Host, V: Vault>(
     ensures last { IsTrue V.tells → IfOk result (λ r. IsLast (V.state vault.new) (Some r.2)) }
     ensures stops { IsTrue V.tells → Throughout (V.state vault.old) (V.state vault.new) (HasEither (contents_of (V.state vault.old)) (serial_of last + 1)
         (λ text. IsTrue (H.tells role.Work) → text ≡ saved_text (disk_heap H.Host host.old rest next) state.now)) }
+    ensures left { IsTrue V.tells → IfErr result (LeavesChecked (V.state vault.old) (V.state vault.new)) }
     ensures extends { IsTrue V.tells → Extends (V.state vault.old) (V.state vault.new) }
     ensures read { IsWorkRead H.Host host.old host.new }
     ensures later { V.faults vault.old ≤ V.faults vault.new }

@@ -1,9 +1,9 @@
 //! What follows from the promise.
-ghost use Rattle.std.specs.Prelude.{◌≡◌, ℕ, Bool, true, List, IsTrue, None, Some};
+ghost use Rattle.std.specs.Prelude.{◌≡◌, ◌≢◌, ◌++◌, ◌∷◌, [], ℕ, Bool, true, List, IsTrue, None, Some};
 ghost use Rattle.loom_host.specs.declared.outside.Role.{Role};
 ghost use Rattle.loom_host.specs.declared.outside.Role.TheVariants.{Image, Events, Work};
 ghost use Rattle.checkpoint.specs.Layout.{bad_place, found, image_in};
-ghost use Rattle.checkpoint.specs.Vault.{contents_of};
+ghost use Rattle.checkpoint.specs.Vault.{Opened, VaultState, contents_of};
 ghost use Rattle.checkpoint.specs.declared.point.Point.{Point};
 ghost use Rattle.loom_run.specs.Completes.{IsOwnEnd};
 ghost use Rattle.loom_run.specs.Ends.{bytes_of};
@@ -12,9 +12,8 @@ ghost use Rattle.loom_run.specs.Promise.{Promise};
 ghost use Rattle.loom_words.specs.Kept.{Else, ToGuard, ToResume, bad_kept, guard_row_of, kept_verb_of, resume_row_of};
 ghost use Rattle.loom_words.specs.declared.status.Status.{Status};
 ghost use Rattle.loom_guard.specs.Completes.{CanEndKept};
-ghost use Rattle.loom_guard.specs.Headline.{GuardedHeadlineBy, TellsGuarded};
 ghost use Rattle.loom_guard.specs.Promise.{KeptPromise};
-ghost use Rattle.loom_guard.specs.Vaults.{VaultMeanings};
+ghost use Rattle.loom_guard.specs.Vaults.{IsNew, VaultMeanings};
 
 /// Right words of a guarded run, an image and events that are right, room for what the model's guarded run does with them, and no fault of a role or of the vault
 /// give the model's own end, or want of memory.
@@ -32,21 +31,9 @@ pub fn a_resumed_run_comes_to_its_end()
         → CanEndKept (image_in (contents_of old.state) point) (bytes_of (now.roles Events)) (resume_row_of words) point.serial before now old new → IsOwnEnd result }
 {}
 
-/// Over a host that tells what Image, Events, Work, Transcript, Saved and Display hold, what `loom_kept` promises of a guarded run gives, with Done or Quit, the
-/// lines of `GuardedHeadline`: the image's heap and state, the events' lines, the ending of the model's guarded run over both, its count, the bytes of
-/// Transcript, Saved and Display, and which checkpoint the vault has.
-pub fn the_headline_of_a_guarded_run()
-    ensures { (tells : Role → Bool) (told : Bool) (before now : Meanings) (old new : VaultMeanings) (words : List (List ℕ)) (result : Status) → TellsGuarded tells → IsTrue (tells Image)
-        → kept_verb_of words ≡ ToGuard → bad_kept words ≡ None → KeptPromise tells told before now old new words result
-        → GuardedHeadlineBy result (bytes_of (now.roles Image)) 0 told before now new.state (guard_row_of words).steps }
-{}
-
-/// So it does of a resumed run, over a vault that tells what it holds: its image is that of the vault's checkpoint, and its serials go on from there.
-pub fn the_headline_of_a_resumed_run()
-    ensures { (tells : Role → Bool) (before now : Meanings) (old new : VaultMeanings) (words : List (List ℕ)) (point : Point) (result : Status) → TellsGuarded tells
-        → kept_verb_of words ≡ ToResume → bad_kept words ≡ None → KeptPromise tells true before now old new words result
-        → found (contents_of old.state) ≡ Some point
-        → GuardedHeadlineBy result (image_in (contents_of old.state) point) point.serial true before now new.state (resume_row_of words).steps }
+/// A vault isn't new right behind its opening: both gates have to be written.
+pub fn an_opening_alone_makes_no_vault()
+    ensures { (old start : VaultState) → IsNew old start → start.calls ≢ old.calls ++ Opened true [] ∷ [] }
 {}
 
 /// Words of other commands: `loom_kept` promises of them what `loom` does, and does nothing with the vault.

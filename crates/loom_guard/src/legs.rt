@@ -5,7 +5,7 @@ ghost use Rattle.loom_host.specs.declared.outside.Role.TheVariants as role;
 ghost use Rattle.blue_model.specs.declared.event.Line.{Line};
 ghost use Rattle.blue_model.specs.declared.limits.TheConstants.{LAST_SERIAL as last_serial};
 ghost use Rattle.blue_model.specs.Earlier.{course_with_earlier};
-ghost use Rattle.blue_model.specs.Guarded.{Guarded};
+ghost use Rattle.blue_model.specs.Guarded.{Guarded, guarded_on};
 ghost use Rattle.blue_model.specs.Logs.{Course};
 ghost use Rattle.contexts.specs.Calls.{StaysFit};
 ghost use Rattle.contexts.specs.Keeping as keeping;
@@ -16,24 +16,25 @@ ghost use Rattle.machine_run.specs.declared.running.Reason.TheVariants as reason
 ghost use Rattle.object_memory.specs.Calls.{IsFit};
 ghost use Rattle.object_memory.specs.Contract.{IfBounds, IsLater};
 ghost use Rattle.object_memory.specs.Told.{IsReady};
-ghost use Rattle.guarded_run.specs.Course.{course_on};
+ghost use Rattle.guarded_run.specs.Course.{course_on, serial_at};
 ghost use Rattle.guarded_run.specs.Legs.{IsAt, Starts};
 ghost use Rattle.loom_memory.specs.Memory.{IsSound, loom_lender, loom_told};
 ghost use Rattle.loom_words.specs.Command.{row_for};
 ghost use Rattle.loom_run.specs.Meanings.{LeavesBut, meanings};
 ghost use Rattle.loom_run.specs.Stages.{Running, roles_at};
 ghost use Rattle.loom_run.specs.Steps.{BeginsImage, HasBounds, IsRefusal, IsSameFile};
-ghost use Rattle.loom_guard.specs.Legs.{HasTick, IsCounted, KeepsWhere, LegAs, LegComes, LegFit, SetsOut};
+ghost use Rattle.loom_guard.specs.Legs.{HasTick, IsCounted, KeepsWhere, LegAs, LegComes, LegFit, LegStops, SetsOut};
+ghost use Rattle.loom_guard.specs.Moments.{StopsAt};
 
 use contexts::{Cpu, Stop};
 use event_file::EventList;
-use guarded_run::{continue_leg, finish_leg, run_leg, start_leg};
+use guarded_run::{continue_leg, finish_leg, run_leg_observed, start_leg};
 use image_format::State;
 use loom_host::Host;
 use loom_memory::LoomMemory;
 use loom_run::steps::status_of;
 use loom_words::{Command, Status};
-use machine_run::{Finished, Halted, Reason, Step, state_of};
+use machine_run::{Finished, Halted, Observer, Reason, Step, state_of};
 use object_memory::ObjectMemory;
 use std::alloc::Global;
 
@@ -58,6 +59,7 @@ fn set_out<M: ObjectMemory>(
     requires state { IsTrue (M.told m.old).tells → KeepsState (M.told m.old) (model_state state.now) }
     ensures starts { IsTrue (M.told m.old).tells → (h : Heap) → Begins h (M.told m.old) → (events : List Line) (steps core : ℕ) (g : Guarded) → IfBounds (M.told m.old).bounds (λ b. b.core ≡ core)
         → SetsOut first events g serial cpu.old (M.told m.old).speaks (M.told m.old).transcript core (model_state state.now) h → cpu.old.ran ≤ steps → Starts events steps g serial (M.told m.new) cpu.new result }
+    ensures serial { (h : Heap) (events : List Line) (core : ℕ) (g : Guarded) → SetsOut first events g serial cpu.old (M.told m.old).speaks (M.told m.old).transcript core (model_state state.now) h → serial_at (guarded_on events cpu.new.ran g) ≡ serial }
     ensures few { cpu.new.ran ≤ cpu.old.ran }
     ensures vault { OnOk result (cpu.new.vault ≡ nat_lt serial last_serial) }
     ensures rest { OnOk result (HasRest (M.told m.new)) }
@@ -92,17 +94,19 @@ fn halt_of(stop: Stop, ran: u32) -> Halted
 }
 
 // Runs the bytecodes of a leg, and ends it: at the end of the run the display is drawn.
-fn run_on<M: ObjectMemory>(
+fn run_on<M: ObjectMemory, O: Observer>(
     alloc: Global,
     m: &mut M,
     cpu: &mut Cpu,
     events: &EventList,
     steps: u32,
+    observer: &mut O,
 ) -> Result<Leg, Halted>
     requires fit { IsFit M.ObjectMemory m.old }
     requires rest { HasRest (M.told m.old) }
     requires few { cpu.old.ran ≤ steps }
     ensures comes { IsTrue (M.told m.old).tells → (g : Guarded) (serial : ℕ) → IsAt events.now g serial (M.told m.old) cpu.old → LegAs events.now steps g serial (M.told m.new) cpu.new result (course_on events.now steps g) }
+    ensures moment { IsTrue (M.told m.old).tells → (g : Guarded) (serial : ℕ) → IsAt events.now g serial (M.told m.old) cpu.old → IfErr result (LegStops events.now steps g serial (M.told m.new)) }
     ensures counted { IfOk result (IsCounted steps) }
     ensures tick { IfOk result HasTick }
     ensures keeps { IfOk result (KeepsWhere (IsTrue cpu.old.vault)) }
@@ -112,7 +116,7 @@ fn run_on<M: ObjectMemory>(
     ensures later { IsLater (M.told m.old) (M.told m.new) }
     ensures fit { LegFit M.ObjectMemory m.old m.new result }
 {
-    let end = match run_leg(m, cpu, events, steps) {
+    let end = match run_leg_observed(m, cpu, events, steps, observer) {
         Ok(end) => end,
         Err(stop) => return Err(halt_of(stop, cpu.ran)),
     };
@@ -126,7 +130,7 @@ fn run_on<M: ObjectMemory>(
 }
 
 // A whole leg over any memory.
-fn whole_leg<M: ObjectMemory>(
+fn whole_leg<M: ObjectMemory, O: Observer>(
     alloc: Global,
     m: &mut M,
     cpu: &mut Cpu,
@@ -135,12 +139,15 @@ fn whole_leg<M: ObjectMemory>(
     state: &State,
     serial: u64,
     steps: u32,
+    observer: &mut O,
 ) -> Result<Leg, Halted>
     requires fit { IsFit M.ObjectMemory m.old }
     requires state { IsTrue (M.told m.old).tells → KeepsState (M.told m.old) (model_state state.now) }
     requires few { cpu.old.ran ≤ steps }
     ensures comes { IsTrue (M.told m.old).tells → (h : Heap) → Begins h (M.told m.old) → (core : ℕ) (g : Guarded) → IfBounds (M.told m.old).bounds (λ b. b.core ≡ core)
         → SetsOut first events.now g serial cpu.old (M.told m.old).speaks (M.told m.old).transcript core (model_state state.now) h → LegAs events.now steps g serial (M.told m.new) cpu.new result (course_on events.now steps g) }
+    ensures moment { IsTrue (M.told m.old).tells → (h : Heap) → Begins h (M.told m.old) → (core : ℕ) (g : Guarded) → IfBounds (M.told m.old).bounds (λ b. b.core ≡ core)
+        → SetsOut first events.now g serial cpu.old (M.told m.old).speaks (M.told m.old).transcript core (model_state state.now) h → IfErr result (LegStops events.now steps g serial (M.told m.new)) }
     ensures counted { IfOk result (IsCounted steps) }
     ensures tick { IfOk result HasTick }
     ensures keeps { IfOk result (KeepsWhere (serial < last_serial)) }
@@ -151,14 +158,14 @@ fn whole_leg<M: ObjectMemory>(
     ensures fit { LegFit M.ObjectMemory m.old m.new result }
 {
     match set_out(m, cpu, first, state, serial) {
-        Ok(()) => run_on(alloc, m, cpu, events, steps),
+        Ok(()) => run_on(alloc, m, cpu, events, steps, observer),
         Err(stop) => Err(halt_of(stop, cpu.ran)),
     }
 }
 
 /// A leg of a guarded run: the machine starts with a state, in the first leg, or goes on with what was kept of it, and runs to the next checkpoint or to the
 /// end. `serial` is that of the last checkpoint, 0 for none, and `cpu.ran` how many bytecodes were run in all legs.
-pub(crate) fn loom_leg<H: Host>(
+pub(crate) fn loom_leg<H: Host, O: Observer>(
     alloc: Global,
     memory: &mut LoomMemory<'_, H>,
     cpu: &mut Cpu,
@@ -167,6 +174,7 @@ pub(crate) fn loom_leg<H: Host>(
     state: &State,
     serial: u64,
     command: &Command<'_>,
+    observer: &mut O,
 ) -> Result<Leg, Status>
     requires sound { IsSound H.Host memory.old }
     requires ready { IsReady (loom_told H.Host memory.old) }
@@ -177,6 +185,10 @@ pub(crate) fn loom_leg<H: Host>(
         → SetsOut first events.now g serial cpu.old (H.tells role.Transcript) (loom_told H.Host memory.old).transcript command.now.core (model_state state.now) h
         → course_on events.now command.now.steps g ≡ course_with_earlier said c
         → LegComes events.now g serial (loom_told H.Host memory.new) cpu.new (row_for command.now) result said c }
+    ensures moment { IsTrue (H.tells role.Work) → (h : Heap) → BeginsImage h state.now (loom_told H.Host memory.old) → (g : Guarded) (said : List ℕ) (c : Course)
+        → SetsOut first events.now g serial cpu.old (H.tells role.Transcript) (loom_told H.Host memory.old).transcript command.now.core (model_state state.now) h
+        → course_on events.now command.now.steps g ≡ course_with_earlier said c
+        → IfErr result (StopsAt (H.tells role.Transcript) command.now.steps events.now g c said (loom_told H.Host memory.new).transcript serial) }
     ensures counted { IfOk result (IsCounted command.now.steps) }
     ensures tick { IfOk result HasTick }
     ensures keeps { IfOk result (KeepsWhere (serial < last_serial)) }
@@ -198,6 +210,7 @@ pub(crate) fn loom_leg<H: Host>(
         state,
         serial,
         command.steps,
+        observer,
     ) {
         Ok(leg) => Ok(leg),
         Err(halted) => Err(status_of(&halted)),

@@ -1,6 +1,6 @@
 //! The program with checkpoints: a run keeps the machine in a vault each time that primitive 97 is done, and another goes on from what was kept.
 //!
-//! `loom_kept` does what `loom` of loom_run does, and two commands more, over any host and any vault. Its one clause is the record `KeptPromise`: read
+//! `loom_kept` does what `loom` of loom_run does, and two commands more, over any host and any vault. What every answer says is the record `KeptPromise`: read
 //! `specs/Promise.antt` first. What it says of the vault is the theorem on stops: from when the checkpoint was found that a run begins with, a stop at any moment
 //! leaves the checkpoint that was answered last, or the one that was under way, whole, and no other.
 //!
@@ -9,13 +9,16 @@
 //!
 //! A guarded run has the stages of a run, with the vault opened before the first of them (`vaults`). The image of a resumed run is read from the vault
 //! (`resuming`). From there both are one (`program`): the machine runs leg by leg (`legs`, `memories`, `keeping`, `guarded`), each over a memory of its own, and the
-//! steps that write are those of loom_run. What it comes to in eight lines (`specs/Headline.antt`), and when to the model's own end, say the laws in `laws`. Nothing is said of Work after a stop.
+//! steps that write are those of loom_run. What it comes to in eight lines (`specs/Headline.antt`) say two clauses more, and when to the model's own end, the laws in `laws`. Nothing is
+//! said of Work after a stop.
 //!
-//! - Proved: The record `KeptPromise` is the one clause of `loom_kept`, over every host and vault: a stop at any moment leaves the
-//!   checkpoint that was answered last, or the next one (`docs/PROMISE.md`).
+//! `loom_kept_observed` is `loom_kept` with an `Observer` of machine_run, who is told how far a run is, through all its legs.
+//!
+//! - Proved: The record `KeptPromise` and the headlines are the clauses of `loom_kept`, over every host and vault: a stop at any moment
+//!   leaves the checkpoint that was answered last, or the next one (`docs/PROMISE.md`).
 //! - Tested: Stops at each call on the vault, gates, refusals (`guard_tests`); kills and faults on real files (`tests/all.sh`).
-//! - Not said: That a checkpoint is kept before the machine goes on; of a run that stops early, that its checkpoint is the last one; that a
-//!   fresh vault's gates are written; and that a failed keep isn't answered as out of memory.
+//! - Not said: That out of memory has a cause: a call on the vault that failed and left the last checkpoint as it was may be answered so.
+//!   Over a host that doesn't tell Work: what was kept.
 #![tactic(auto)]
 
 mod guarded;
@@ -27,4 +30,4 @@ mod program;
 mod resuming;
 mod vaults;
 
-pub use program::loom_kept;
+pub use program::{loom_kept, loom_kept_observed};

@@ -29,10 +29,11 @@ use loom_host::Host;
 use loom_memory::{CoreTables, LoomMemory};
 use loom_run::steps::wind_up;
 use loom_words::{Command, Status};
+use machine_run::Observer;
 use std::alloc::Global;
 
 // The leg, and then the memory is wound up. The answer has the next name.
-fn wound_leg<H: Host>(
+fn wound_leg<H: Host, O: Observer>(
     alloc: Global,
     memory: &mut LoomMemory<'_, H>,
     cpu: &mut Cpu,
@@ -41,6 +42,7 @@ fn wound_leg<H: Host>(
     state: &State,
     serial: u64,
     command: &Command<'_>,
+    observer: &mut O,
 ) -> Result<(Leg, u32), Status>
     requires sound { IsSound H.Host memory.old }
     requires ready { IsReady (loom_told H.Host memory.old) }
@@ -60,15 +62,17 @@ fn wound_leg<H: Host>(
     ensures lender { loom_lender memory.new ≡ loom_lender memory.old }
     ensures others { LeavesBut (roles_at Running) (meanings H.Host memory.old.disk.host.now) (meanings H.Host memory.new.disk.host.now) }
     ensures ends { IfErr result (Halts H.tells (meanings H.Host memory.old.disk.host.now) (meanings H.Host memory.new.disk.host.now) (row_for command.now) events.now
-        (FromMemory H.tells (row_for command.now) first events.now serial cpu.old (loom_told H.Host memory.old) state.now)) }
+        (FromMemory H.tells (row_for command.now) first events.now serial cpu.old (loom_told H.Host memory.old) state.now) serial) }
 {
-    let leg = loom_leg(alloc, memory, cpu, first, events, state, serial, command)?;
+    let leg = loom_leg(
+        alloc, memory, cpu, first, events, state, serial, command, observer,
+    )?;
     let next = wind_up(memory, command, cpu.ran)?;
     Ok((leg, next))
 }
 
 /// A leg over the disk of a host. The disk has what the leg begins with, and then what its memory kept. The answer has the name that the next new object takes.
-pub(crate) fn run_stretch<H: Host>(
+pub(crate) fn run_stretch<H: Host, O: Observer>(
     alloc: Global,
     host: &mut H,
     rest: DiskRest,
@@ -78,6 +82,7 @@ pub(crate) fn run_stretch<H: Host>(
     events: &EventList,
     serial: u64,
     command: &Command<'_>,
+    observer: &mut O,
 ) -> Result<(DiskRest, Leg, u32), Status>
     requires limits { HasLimits command.now }
     requires image { HasImage H.Host host.old rest loaded.now }
@@ -95,7 +100,7 @@ pub(crate) fn run_stretch<H: Host>(
     ensures file { IsTrue (H.tells role.Work) → IsSameFile (H.roles host.old role.Work) (H.roles host.new role.Work) }
     ensures others { LeavesBut (roles_at Running) (meanings H.Host host.old) (meanings H.Host host.new) }
     ensures ends { IfErr result (Halts H.tells (meanings H.Host host.old) (meanings H.Host host.new) (row_for command.now) events.now
-        (FromDisk H.tells (row_for command.now) first events.now serial cpu.old (H.roles host.old role.Transcript).put loaded.now.state (heap_on H.Host host.old rest loaded.now.next))) }
+        (FromDisk H.tells (row_for command.now) first events.now serial cpu.old (H.roles host.old role.Transcript).put loaded.now.state (heap_on H.Host host.old rest loaded.now.next)) serial) }
 {
     let Ok(tables) = CoreTables::new(alloc, command.core, command.entries) else {
         return Err(Status::OutOfMemory);
@@ -111,6 +116,7 @@ pub(crate) fn run_stretch<H: Host>(
         &loaded.state,
         serial,
         command,
+        observer,
     );
     // by a name of its own, or the proof knows nothing of it any more
     let (host, rest) = memory.into_disk().apart();

@@ -27,4 +27,5 @@ pub mod TracedRun
 pub mod TracedTelling
 pub mod TracedUses
 pub mod UsesLaws
+pub mod WorkedLaws
 pub mod WrittenLaws

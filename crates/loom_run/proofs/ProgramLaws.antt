@@ -21,7 +21,7 @@ use Rattle.machine_run.specs.declared.running.Finished.{Finished}
 use Rattle.loom_run.specs.Ends.{AttachedOnce, GoesThrough, JudgesEvents, JudgesImage, MadeBy, WrittenBy, bytes_of}
 use Rattle.loom_run.specs.Meanings.{Meanings, LeavesBut, meanings}
 use Rattle.loom_run.specs.Stages.{Opening, Reading, Listening, Making, Running, Finishing, Saving, Drawing, Telling, roles_at, written_roles}
-use Rattle.loom_run.specs.Steps.{Came, CameThrough, HasHeard, HasRead, IsRefusal, IsSameFile, LateEnds, ReadEnds, RunEnds, Uses}
+use Rattle.loom_run.specs.Steps.{Came, CameThrough, HasHeard, HasRead, IsRefusal, IsSameFile, LateEnds, ReadEnds, RunEnds, Uses, WrittenEnds}
 use Rattle.loom_words.specs.Words.{Row}
 use Rattle.loom_words.specs.declared.status.Status.{Status}
 use Rattle.loom_words.specs.declared.status.Status.TheVariants.{OutOfMemory}
@@ -102,7 +102,7 @@ module _ (tells : Role → Bool) (before : Meanings) (row : Row) where
     silent : far.roles Transcript ≡ mid.roles Transcript
     silent = (others.others Transcript (λ e. cc, (λ e. cc, tt))).state
 
-    pub saving-refused : (status : Status) → IsRefusal tells mid far row Saving status → (IsTrue (tells Saved) → IsTrue (tells Work) → MadeBy false row.saved (saved_text (kept remains no_roots) finished.state) (mid.roles Saved) (far.roles Saved)) → LateEnds tells before far row status c
+    pub saving-refused : (status : Status) → IsRefusal tells mid far row Saving status → (IsTrue (tells Saved) → IsTrue (tells Work) → MadeBy false row.saved (saved_text (kept remains no_roots) finished.state) (mid.roles Saved) (far.roles Saved)) → WrittenEnds tells before far row status c
     saving-refused status refused put = late-saving tells before row c mid finished remains used through far status used-saving refused silent put
 
     module _ (put : IsTrue (tells Saved) → IsTrue (tells Work) → MadeBy true row.saved (saved_text (kept remains no_roots) finished.state) (mid.roles Saved) (far.roles Saved))
@@ -113,11 +113,11 @@ module _ (tells : Role → Bool) (before : Meanings) (row : Row) where
       undrawn : far.roles Display ≡ mid.roles Display
       undrawn = (others.others Display (λ e. cc, (λ e. cc, tt))).state
 
-      pub drawing-refused : (status : Status) → IsRefusal tells far now row Drawing status → (IsTrue (tells Display) → WrittenBy false row.display finished.picture (far.roles Display) (now.roles Display)) → LateEnds tells before now row status c
+      pub drawing-refused : (status : Status) → IsRefusal tells far now row Drawing status → (IsTrue (tells Display) → WrittenBy false row.display finished.picture (far.roles Display) (now.roles Display)) → WrittenEnds tells before now row status c
       drawing-refused status refused drawn = late-drawing tells before row c mid finished remains used through far silent put undrawn now status used-drawing used-saving.later refused
           (drawing.others Transcript (λ e. cc, tt)).state (drawing.others Saved (λ e. cc, tt)).state drawn
 
-      pub run-finished : (status : Status) → IsRefusal tells now now row Telling status → ((c : Course) → IsParkedBy finished.end finished.ran c.ending → GoesThrough status c) → (IsTrue (tells Display) → WrittenBy true row.display finished.picture (far.roles Display) (now.roles Display)) → LateEnds tells before now row status c
+      pub run-finished : (status : Status) → IsRefusal tells now now row Telling status → ((c : Course) → IsParkedBy finished.end finished.ran c.ending → GoesThrough status c) → (IsTrue (tells Display) → WrittenBy true row.display finished.picture (far.roles Display) (now.roles Display)) → WrittenEnds tells before now row status c
       run-finished status answered goes drawn = late-telling tells before row c mid finished remains used through far silent put undrawn now status (uses-telling tells row before now used-drawing)
           (left-then Notes before far now (used-saving.unused Notes refl) (drawing.others Notes (λ e. cc, tt))) answered goes
           (drawing.others Transcript (λ e. cc, tt)).state (drawing.others Saved (λ e. cc, tt)).state drawn

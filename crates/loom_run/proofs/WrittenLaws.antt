@@ -18,7 +18,7 @@ use Rattle.loom_run.specs.Ends.{CutsLine, GoesThrough, HasRun, MadeBy, RunsTo, S
 use Rattle.loom_run.specs.Meanings.{Meanings, IsLeft}
 use Rattle.loom_run.specs.Parts.{IsFinished}
 use Rattle.loom_run.specs.Stages.{Stage, Running, Finishing, Saving, Drawing, Telling, Ends, reaches}
-use Rattle.loom_run.specs.Steps.{Came, CameThrough, IsOfRun, IsRefusal, LateEnds, RunEnds, Uses}
+use Rattle.loom_run.specs.Steps.{Came, CameThrough, IsOfRun, IsRefusal, LateEnds, RunEnds, Uses, WrittenEnds}
 use Rattle.loom_words.specs.Words.{Row}
 use Rattle.loom_words.specs.declared.status.Status.{Status}
 use Rattle.loom_words.specs.declared.status.Status.TheVariants as answer
@@ -100,7 +100,7 @@ on-parked-left (Stuck why count said) b text a mid now same w = w
 
 -- From the machine's run on a run ends by what came of its machine: over any course.
 module _ (tells : Role → Bool) (before : Meanings) (row : Row) (c : Course) where
-  late-end : (mid now : Meanings) (stage : Stage) (status : Status) → IsTrue (reaches Running stage) → ((role : Role) → before.faults role ≤ mid.faults role) → Uses tells before now row stage → IsLeft Notes before now
+  abbrev late-end : (mid now : Meanings) (stage : Stage) (status : Status) → IsTrue (reaches Running stage) → ((role : Role) → before.faults role ≤ mid.faults role) → Uses tells before now row stage → IsLeft Notes before now
       → IsRefusal tells mid now row stage status → (IsTrue (tells Work) → RunsTo tells before now row stage status c) → LateEnds tells before now row status c
   late-end mid now stage status late since uses untold refused runs = record {
     stage = stage;
@@ -146,51 +146,60 @@ module _ (tells : Role → Bool) (before : Meanings) (row : Row) (c : Course) wh
 
   module _ (mid : Meanings) (finished : Finished) (remains : Heap) (used : Uses tells before mid row Finishing) (through : IsTrue (tells Work) → CameThrough tells before mid row finished remains c) where
     pub late-saving : (now : Meanings) (status : Status) → Uses tells before now row Saving → IsRefusal tells mid now row Saving status → now.roles Transcript ≡ mid.roles Transcript
-        → (IsTrue (tells Saved) → IsTrue (tells Work) → MadeBy false row.saved (saved_text (kept remains no_roots) finished.state) (mid.roles Saved) (now.roles Saved)) → LateEnds tells before now row status c
-    late-saving now status uses refused silent put = late-end mid now Saving status refl used.later uses (uses.unused Notes refl) refused (λ work. record {
-      stops = λ at. absurd (cc);
-      goes = λ past. goes-refused status c (λ ran e. subst (λ s. Ends Saving s) e refused.answer) (λ ran e. subst (λ s. Ends Saving s) e refused.answer) (parked-of finished.end finished.ran c.ending (through work).parked);
-      fits = λ past. (through work).fits;
-      says = λ told at. absurd (cc);
-      said = λ told past. ap (λ (s : RoleState). s.put) silent ∙ (through work).said told;
-      saves = λ told past. written-of c.ending false row.saved _ (before.roles Saved) (mid.roles Saved) (now.roles Saved) (through work).saves (used.unused Saved refl).state (put told work);
-      draws = λ told past. never past;
-      cuts = λ told at. absurd (cc);
-      image = λ past. (through work).image;
-    })
+        → (IsTrue (tells Saved) → IsTrue (tells Work) → MadeBy false row.saved (saved_text (kept remains no_roots) finished.state) (mid.roles Saved) (now.roles Saved)) → WrittenEnds tells before now row status c
+    late-saving now status uses refused silent put = (
+      late-end mid now Saving status refl used.later uses (uses.unused Notes refl) refused (λ work. record {
+        stops = λ at. absurd (cc);
+        goes = λ past. goes-refused status c (λ ran e. subst (λ s. Ends Saving s) e refused.answer) (λ ran e. subst (λ s. Ends Saving s) e refused.answer) (parked-of finished.end finished.ran c.ending (through work).parked);
+        fits = λ past. (through work).fits;
+        says = λ told at. absurd (cc);
+        said = λ told past. ap (λ (s : RoleState). s.put) silent ∙ (through work).said told;
+        saves = λ told past. written-of c.ending false row.saved _ (before.roles Saved) (mid.roles Saved) (now.roles Saved) (through work).saves (used.unused Saved refl).state (put told work);
+        draws = λ told past. never past;
+        cuts = λ told at. absurd (cc);
+        image = λ past. (through work).image;
+      }),
+      refl,
+    )
 
     module _ (far : Meanings) (silent : far.roles Transcript ≡ mid.roles Transcript) (put : IsTrue (tells Saved) → IsTrue (tells Work) → MadeBy true row.saved (saved_text (kept remains no_roots) finished.state) (mid.roles Saved) (far.roles Saved)) (undrawn : far.roles Display ≡ mid.roles Display) where
       saved-far : IsTrue (tells Saved) → IsTrue (tells Work) → OnParked c.ending (λ m. MadeBy true row.saved (image_of m) (before.roles Saved) (far.roles Saved))
       saved-far told work = written-of c.ending true row.saved _ (before.roles Saved) (mid.roles Saved) (far.roles Saved) (through work).saves (used.unused Saved refl).state (put told work)
 
       pub late-drawing : (now : Meanings) (status : Status) → Uses tells before now row Drawing → ((role : Role) → before.faults role ≤ far.faults role) → IsRefusal tells far now row Drawing status
-          → now.roles Transcript ≡ far.roles Transcript → now.roles Saved ≡ far.roles Saved → (IsTrue (tells Display) → WrittenBy false row.display finished.picture (far.roles Display) (now.roles Display)) → LateEnds tells before now row status c
-      late-drawing now status uses since refused still saved drawn = late-end far now Drawing status refl since uses (uses.unused Notes refl) refused (λ work. record {
-        stops = λ at. absurd (cc);
-        goes = λ past. goes-refused status c (λ ran e. subst (λ s. Ends Drawing s) e refused.answer) (λ ran e. subst (λ s. Ends Drawing s) e refused.answer) (parked-of finished.end finished.ran c.ending (through work).parked);
-        fits = λ past. (through work).fits;
-        says = λ told at. absurd (cc);
-        said = λ told past. ap (λ (s : RoleState). s.put) (still ∙ silent) ∙ (through work).said told;
-        saves = λ told past. on-parked-left c.ending true row.saved (before.roles Saved) (far.roles Saved) (now.roles Saved) saved (saved-far told work);
-        draws = λ told past. drawn-of c.ending false row.display finished.picture (before.roles Display) (far.roles Display) (now.roles Display) (through work).drawn (undrawn ∙ (used.unused Display refl).state) (drawn told);
-        cuts = λ told at. absurd (cc);
-        image = λ past. (through work).image;
-      })
+          → now.roles Transcript ≡ far.roles Transcript → now.roles Saved ≡ far.roles Saved → (IsTrue (tells Display) → WrittenBy false row.display finished.picture (far.roles Display) (now.roles Display)) → WrittenEnds tells before now row status c
+      late-drawing now status uses since refused still saved drawn = (
+        late-end far now Drawing status refl since uses (uses.unused Notes refl) refused (λ work. record {
+          stops = λ at. absurd (cc);
+          goes = λ past. goes-refused status c (λ ran e. subst (λ s. Ends Drawing s) e refused.answer) (λ ran e. subst (λ s. Ends Drawing s) e refused.answer) (parked-of finished.end finished.ran c.ending (through work).parked);
+          fits = λ past. (through work).fits;
+          says = λ told at. absurd (cc);
+          said = λ told past. ap (λ (s : RoleState). s.put) (still ∙ silent) ∙ (through work).said told;
+          saves = λ told past. on-parked-left c.ending true row.saved (before.roles Saved) (far.roles Saved) (now.roles Saved) saved (saved-far told work);
+          draws = λ told past. drawn-of c.ending false row.display finished.picture (before.roles Display) (far.roles Display) (now.roles Display) (through work).drawn (undrawn ∙ (used.unused Display refl).state) (drawn told);
+          cuts = λ told at. absurd (cc);
+          image = λ past. (through work).image;
+        }),
+        refl,
+      )
 
       -- a run that went through
       pub late-telling : (now : Meanings) (status : Status) → Uses tells before now row Telling → IsLeft Notes before now → IsRefusal tells now now row Telling status → ((c : Course) → IsParkedBy finished.end finished.ran c.ending → GoesThrough status c)
-          → now.roles Transcript ≡ far.roles Transcript → now.roles Saved ≡ far.roles Saved → (IsTrue (tells Display) → WrittenBy true row.display finished.picture (far.roles Display) (now.roles Display)) → LateEnds tells before now row status c
-      late-telling now status uses untold answered goes still saved drawn = late-end now now Telling status refl uses.later uses untold answered (λ work. record {
-        stops = λ at. absurd (cc);
-        goes = λ past. goes c (through work).parked;
-        fits = λ past. (through work).fits;
-        says = λ told at. absurd (cc);
-        said = λ told past. ap (λ (s : RoleState). s.put) (still ∙ silent) ∙ (through work).said told;
-        saves = λ told past. on-parked-left c.ending true row.saved (before.roles Saved) (far.roles Saved) (now.roles Saved) saved (saved-far told work);
-        draws = λ told past. drawn-of c.ending true row.display finished.picture (before.roles Display) (far.roles Display) (now.roles Display) (through work).drawn (undrawn ∙ (used.unused Display refl).state) (drawn told);
-        cuts = λ told at. cuts-none status c (before.roles Notes) (now.roles Notes) answered.of_run;
-        image = λ past. (through work).image;
-      })
+          → now.roles Transcript ≡ far.roles Transcript → now.roles Saved ≡ far.roles Saved → (IsTrue (tells Display) → WrittenBy true row.display finished.picture (far.roles Display) (now.roles Display)) → WrittenEnds tells before now row status c
+      late-telling now status uses untold answered goes still saved drawn = (
+        late-end now now Telling status refl uses.later uses untold answered (λ work. record {
+          stops = λ at. absurd (cc);
+          goes = λ past. goes c (through work).parked;
+          fits = λ past. (through work).fits;
+          says = λ told at. absurd (cc);
+          said = λ told past. ap (λ (s : RoleState). s.put) (still ∙ silent) ∙ (through work).said told;
+          saves = λ told past. on-parked-left c.ending true row.saved (before.roles Saved) (far.roles Saved) (now.roles Saved) saved (saved-far told work);
+          draws = λ told past. drawn-of c.ending true row.display finished.picture (before.roles Display) (far.roles Display) (now.roles Display) (through work).drawn (undrawn ∙ (used.unused Display refl).state) (drawn told);
+          cuts = λ told at. cuts-none status c (before.roles Notes) (now.roles Notes) answered.of_run;
+          image = λ past. (through work).image;
+        }),
+        refl,
+      )
 
 -- and what was read says which course that is
 module _ (tells : Role → Bool) (before : Meanings) (row : Row) (state : Words) (heap : Heap) (lines : List Line) where

@@ -14,3 +14,4 @@ pub mod Stages
 pub mod Steps
 pub mod Traced
 pub mod Traces
+pub mod Worked

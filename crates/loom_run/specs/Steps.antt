@@ -29,7 +29,7 @@ use Rattle.loom_run.specs.Makes.{Makes}
 use Rattle.loom_run.specs.Meanings.{Meanings, IsLeft, LeavesBut}
 use Rattle.loom_run.specs.Promise.{EndsAt}
 use Rattle.loom_run.specs.declared.converting.Way.{Way}
-use Rattle.loom_run.specs.Stages.{Stage, Opening, Reading, Making, Running, Saving, Ends, passes, reaches, roles_at, stage_of}
+use Rattle.loom_run.specs.Stages.{Stage, Opening, Reading, Making, Running, Finishing, Saving, Ends, passes, reaches, roles_at, stage_of}
 use Rattle.loom_words.specs.Words.{MakeRow, Paths, Row}
 use Rattle.loom_words.specs.declared.status.Status.{Status}
 use Rattle.loom_words.specs.declared.status.Status.TheVariants.{Made, Listed, Assembled, Usage, ReadFault, WriteFault}
@@ -168,6 +168,10 @@ pub record LateEnds (tells : Role → Bool) (before now : Meanings) (row : Row) 
   pub refusal : IsRefusal tells before now row stage result
   pub untold : IsLeft Notes before now
   pub runs : IsTrue (tells Work) → RunsTo tells before now row stage result c
+
+-- where it went through, and its memory was wound up
+abbrev pub WrittenEnds : (Role → Bool) → Meanings → Meanings → Row → Status → Course → Type 0
+WrittenEnds tells before now row result c = (end : LateEnds tells before now row result c) × IsTrue (passes Finishing end.stage)
 
 -- It ended at one of its stages, and nothing was put to Notes.
 pub record RunEnds (tells : Role → Bool) (before now : Meanings) (row : Row) (result : Status) : Type 0 where

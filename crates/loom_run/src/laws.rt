@@ -1,5 +1,5 @@
 // Laws of the program. No code calls these functions: what each of them ensures is the law.
-ghost use Rattle.std.specs.Prelude.{◌<◌, ◌^◌, Bool, IsTrue, List, [], None, ◌≡◌, ◌≢◌, ℕ};
+ghost use Rattle.std.specs.Prelude.{◌<◌, ◌^◌, Bool, true, IsTrue, List, [], None, ◌≡◌, ◌≢◌, ℕ};
 ghost use Rattle.long_names.specs.Heap.{Heap};
 ghost use Rattle.long_names.specs.Kept.{kept, no_roots};
 ghost use Rattle.image_format.specs.declared.opening.ImageHead.{ImageHead};
@@ -25,7 +25,7 @@ ghost use Rattle.loom_run.specs.Base.{base_bytes, text_of_ending};
 ghost use Rattle.loom_host.specs.declared.outside.Role.{Role};
 ghost use Rattle.loom_host.specs.declared.outside.Role.TheVariants.{Image, Events, Work};
 ghost use Rattle.loom_words.specs.declared.status.Status.{Status};
-ghost use Rattle.loom_run.specs.Completes.{CanEnd, IsConverted, IsMadeOf, IsOwnEnd, IsSource};
+ghost use Rattle.loom_run.specs.Completes.{CanEnd, HasRoom, IsConverted, IsMadeOf, IsOwnEnd, IsSource};
 ghost use Rattle.loom_run.specs.Converts.{bytes_by, head_under, verb_for};
 ghost use Rattle.loom_run.specs.declared.converting.Way.{Way};
 ghost use Rattle.loom_run.specs.declared.converting.Way.TheVariants.{Listing, Assembling};
@@ -33,13 +33,16 @@ ghost use Rattle.text_lines.specs.Texts.{IsTextOf};
 ghost use Rattle.image_format.specs.declared.opening.State.{State as Words};
 ghost use Rattle.image_format.specs.declared.opening.TheConstants.{STATE_VERSION};
 ghost use Rattle.loom_run.specs.Ends.{IsImageOf, bytes_of, head_of, image_of};
-ghost use Rattle.loom_run.specs.Headline.{HeadlineBy, SmallBy, TellsHeadline};
+ghost use Rattle.loom_run.specs.Headline.{HeadlineBy, IsSameRun, SmallBy, TellsHeadline};
 ghost use Rattle.loom_run.specs.Meanings.{Meanings};
+ghost use Rattle.loom_run.specs.Parts.{IsFinished};
 ghost use Rattle.loom_run.specs.Promise.{Promise};
+ghost use Rattle.loom_run.specs.Worked.{HasBaseFiles, base_after, base_before, base_words};
 ghost use Rattle.loom_run.specs.Refusals.{CameTo, CameToTraced, LeavesFiles, LeavesTraced, role_of, traced_role_of};
 ghost use Rattle.loom_run.specs.Shows.{ShowsBy, TellsTrace};
 ghost use Rattle.loom_words.specs.Status.{usage_of};
-ghost use Rattle.loom_words.specs.Words.{ToMake, ToRun, ToTrace, bad_word, make_of, row_of, trace_row_of, verb_of};
+ghost use Rattle.loom_words.specs.declared.status.Status.TheVariants.{Done};
+ghost use Rattle.loom_words.specs.Words.{Row, ToMake, ToRun, ToTrace, bad_word, make_of, row_of, trace_row_of, verb_of};
 
 use loom_host::Host;
 
@@ -49,12 +52,28 @@ pub fn base_text()
     ensures after { text_of_ending (ending [] 2 no_state (heap_running base_code)) ≡ base_bytes 11 }
 {}
 
-/// Over a host that tells what Image, Events, Work, Transcript, Saved and Display hold, what `loom` promises of a run gives, with Done or Quit,
-/// the seven lines of `Headline`: the image's heap and state, the events' lines, the ending of the model's run over both, its count, and the
-/// bytes of Transcript, Saved and Display.
-pub fn headline()
-    ensures { (tells : Role → Bool) (before now : Meanings) (words : List (List ℕ)) (result : Status) → TellsHeadline tells → Promise tells before now words result → verb_of words ≡ ToRun → bad_word words ≡ None
-        → HeadlineBy result before now (row_of words).steps }
+/// Two runs over hosts that tell these roles, of one image, the same events and as many bytecodes, came to the same where each answers Done or Quit: the answer, what each
+/// put to Transcript, the saved image, and the picture, whatever their cores, tables and work files.
+pub fn headline_determines_the_files()
+    ensures { (old new before now : Meanings) (row other : Row) (result status : Status) → IsFinished result → HeadlineBy result old new row → IsFinished status → HeadlineBy status before now other
+        → bytes_of (new.roles Image) ≡ bytes_of (now.roles Image) → bytes_of (new.roles Events) ≡ bytes_of (now.roles Events) → row.steps ≡ other.steps → IsSameRun old new before now result status }
+{}
+
+/// The base image, no events and two bytecodes. Whoever answers Done or Quit then answers Done and wrote these 672 bytes, nothing to Transcript and no picture. The
+/// promise isn't empty: a host that tells all may mean what it says of such a run, before it and after it.
+pub fn worked_headline()
+    ensures wrote { (before now : Meanings) (row : Row) (result : Status) → HeadlineBy result before now row → IsFinished result → row.steps ≡ 2
+        → bytes_of (now.roles Image) ≡ base_bytes 7 → bytes_of (now.roles Events) ≡ [] → (result ≡ Done 2) × HasBaseFiles before now }
+    ensures tells { TellsHeadline (λ role. true) }
+    ensures asks { (verb_of base_words ≡ ToRun) × (bad_word base_words ≡ None) × ((row_of base_words).steps ≡ 2) }
+    ensures promised { Promise (λ role. true) base_before base_after base_words (Done 2) }
+    ensures files { (bytes_of (base_after.roles Image) ≡ base_bytes 7) × (bytes_of (base_after.roles Events) ≡ []) }
+{}
+
+/// That run may come to its end: the image and the events are right, there is room for all that the model does, and no call failed.
+pub fn worked_end()
+    ensures can_end { CanEnd (bytes_of (base_after.roles Image)) (bytes_of (base_after.roles Events)) (row_of base_words) base_before.faults base_after.faults }
+    ensures roomy { (head : ImageHead) (heap : Heap) → IsImageOf (base_bytes 7) head heap → HasRoom (row_of base_words) (course [] 2 (model_state head.state) heap) }
 {}
 
 /// Where the model makes an object that takes more words than the core has, the answer of a run is neither Done nor Quit.

@@ -22,16 +22,17 @@ use image_format::State;
 use loom_host::{Host, Role};
 use loom_memory::LoomMemory;
 use loom_words::{Command, Status};
-use machine_run::{Finished, whole_run};
+use machine_run::{Finished, Observer, whole_run_observed};
 use std::alloc::Global;
 
 /// Starts with the state, runs so many bytecodes, parks, and draws the picture.
-pub(crate) fn run_machine<H: Host>(
+pub(crate) fn run_machine<H: Host, O: Observer>(
     alloc: Global,
     memory: &mut LoomMemory<'_, H>,
     events: &EventList,
     state: &State,
     command: &Command<'_>,
+    observer: &mut O,
 ) -> Result<Finished, Status>
     requires sound { IsSound H.Host memory.old }
     requires ready { IsReady (loom_told H.Host memory.old) }
@@ -49,7 +50,7 @@ pub(crate) fn run_machine<H: Host>(
     ensures others { LeavesBut (roles_at Running) (meanings H.Host memory.old.disk.host.now) (meanings H.Host memory.new.disk.host.now) }
     ensures refused { IfErr result (IsRefusal H.tells (meanings H.Host memory.old.disk.host.now) (meanings H.Host memory.new.disk.host.now) (row_for command.now) Running) }
 {
-    match whole_run(alloc, memory, events, command.steps, state) {
+    match whole_run_observed(alloc, memory, events, command.steps, state, observer) {
         Ok(finished) => Ok(finished),
         Err(halted) => Err(status_of(&halted)),
     }

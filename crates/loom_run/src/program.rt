@@ -14,11 +14,12 @@ ghost use Rattle.loom_memory.specs.Memory.{loom_lender, loom_told, IsSound};
 ghost use Rattle.machine_run.specs.States.{model_state};
 ghost use Rattle.object_memory.specs.Told.{IsReady};
 ghost use Rattle.loom_words.specs.Command.{HasLimits, row_for};
+ghost use Rattle.loom_run.specs.Headline.{HeadlineBy, TellsHeadline};
 ghost use Rattle.loom_run.specs.Meanings.{meanings, LeavesBut, Meanings};
 ghost use Rattle.loom_run.specs.Promise.{Promise};
 ghost use Rattle.loom_run.specs.Stages.{Listening, Finishing, written_roles};
-ghost use Rattle.loom_run.specs.Steps.{BeginsImage, Came, CameThrough, HasBounds, LateEnds, RunEnds, Uses};
-ghost use Rattle.loom_words.specs.Words.{texts_of};
+ghost use Rattle.loom_run.specs.Steps.{BeginsImage, Came, CameThrough, HasBounds, RunEnds, Uses, WrittenEnds};
+ghost use Rattle.loom_words.specs.Words.{ToRun, row_of, texts_of, verb_of};
 
 use crate::converting::{Way, convert};
 use crate::following::trace_command;
@@ -35,7 +36,7 @@ use image_reader::Loaded;
 use loom_host::Host;
 use loom_memory::{CoreTables, LoomMemory};
 use loom_words::{Asked, Command, Status, asked_of};
-use machine_run::Finished;
+use machine_run::{Finished, NoObserver, Observer};
 use std::alloc::Global;
 
 /// What a run that went through leaves to be written.
@@ -63,12 +64,28 @@ pub struct Ended {
 /// A trace: Work is attached; then Image, which is read as in a run; then Events; then Saved, for the lines. The memory is made. The machine
 /// starts, and runs STEPS bytecodes, or fewer where one ends it; behind each its line is put to Saved, and what it says goes to Transcript as it
 /// is said. Then Saved is ended, after a stop too, but not where a line couldn't be put. No image is saved, and nothing is drawn.
+///
+/// What a run comes to that answers Done or Quit is `headline`; what every answer says is `promise`.
 pub fn loom<H: Host>(alloc: Global, host: &mut H, words: &[String]) -> Status
     ensures promise { Promise H.tells (meanings H.Host host.old) (meanings H.Host host.new) (texts_of words.now) result }
+    ensures headline { TellsHeadline H.tells → verb_of (texts_of words.now) ≡ ToRun → HeadlineBy result (meanings H.Host host.old) (meanings H.Host host.new) (row_of (texts_of words.now)) }
+{
+    loom_observed(alloc, host, words, &mut NoObserver)
+}
+
+/// Does what `loom` does, and tells an observer of a run at every 65,536th bytecode.
+pub fn loom_observed<H: Host, O: Observer>(
+    alloc: Global,
+    host: &mut H,
+    words: &[String],
+    observer: &mut O,
+) -> Status
+    ensures promise { Promise H.tells (meanings H.Host host.old) (meanings H.Host host.new) (texts_of words.now) result }
+    ensures headline { TellsHeadline H.tells → verb_of (texts_of words.now) ≡ ToRun → HeadlineBy result (meanings H.Host host.old) (meanings H.Host host.new) (row_of (texts_of words.now)) }
 {
     match asked_of(words) {
         Ok(Asked::Run(command)) => {
-            let status = run_command(alloc, host, &command);
+            let status = run_command(alloc, host, &command, observer);
             tell(host, status)
         }
         Ok(Asked::Make(making)) => {
@@ -92,24 +109,38 @@ pub fn loom<H: Host>(alloc: Global, host: &mut H, words: &[String]) -> Status
 }
 
 // The run that a command asks for, without its last line.
-fn run_command<H: Host>(alloc: Global, host: &mut H, command: &Command<'_>) -> Status
+fn run_command<H: Host, O: Observer>(
+    alloc: Global,
+    host: &mut H,
+    command: &Command<'_>,
+    observer: &mut O,
+) -> Status
     requires limits { HasLimits command.now }
     ensures ends { RunEnds H.tells (meanings H.Host host.old) (meanings H.Host host.new) (row_for command.now) result }
 {
     match read_all(alloc, host, command) {
-        Ok(read) => run_under(alloc, host, read.rest, &read.loaded, &read.events, command),
+        Ok(read) => run_under(
+            alloc,
+            host,
+            read.rest,
+            &read.loaded,
+            &read.events,
+            command,
+            observer,
+        ),
         Err(status) => status,
     }
 }
 
 // The memory is made, the machine runs, and the memory is wound up.
-fn run_under<H: Host>(
+fn run_under<H: Host, O: Observer>(
     alloc: Global,
     host: &mut H,
     rest: DiskRest,
     loaded: &Loaded,
     events: &EventList,
     command: &Command<'_>,
+    observer: &mut O,
 ) -> Status
     requires limits { HasLimits command.now }
     requires image { HasImage H.Host host.old rest loaded.now }
@@ -122,7 +153,7 @@ fn run_under<H: Host>(
     };
     let disk = DiskObjects::again(host, rest);
     let mut memory = begin_memory(disk, loaded, tables, command.core, command.entries);
-    let run = run_memory(alloc, &mut memory, events, &loaded.state, command);
+    let run = run_memory(alloc, &mut memory, events, &loaded.state, command, observer);
     let disk = memory.into_disk();
     match run {
         Ok(ended) => {
@@ -137,12 +168,13 @@ fn run_under<H: Host>(
 }
 
 // The machine runs, and the memory is wound up.
-fn run_memory<H: Host>(
+fn run_memory<H: Host, O: Observer>(
     alloc: Global,
     memory: &mut LoomMemory<'_, H>,
     events: &EventList,
     state: &State,
     command: &Command<'_>,
+    observer: &mut O,
 ) -> Result<Ended, Status>
     requires sound { IsSound H.Host memory.old }
     requires ready { IsReady (loom_told H.Host memory.old) }
@@ -160,7 +192,7 @@ fn run_memory<H: Host>(
         → RunEnds H.tells before (meanings H.Host memory.new.disk.host.now) (row_for command.now) status) }
     ensures lender { loom_lender memory.new ≡ loom_lender memory.old }
 {
-    let finished = run_machine(alloc, memory, events, state, command)?;
+    let finished = run_machine(alloc, memory, events, state, command, observer)?;
     let next = wind_up(memory, command, finished.ran)?;
     Ok(Ended { finished, next })
 }
@@ -180,7 +212,7 @@ pub fn write_kept<H: Host>(
     ensures ends { (tells : Role → Bool) → ((role : Role) → IsTrue (tells role) → IsTrue (H.tells role))
         → (before : Meanings) (left : Heap) (c : Course) → Uses tells before (meanings H.Host host.old) (row_for command.now) Finishing
         → (IsTrue (tells role.Work) → HasEnded H.Host host.old rest ended.now.next left × CameThrough tells before (meanings H.Host host.old) (row_for command.now) ended.now.finished left c)
-        → LateEnds tells before (meanings H.Host host.new) (row_for command.now) result c }
+        → WrittenEnds tells before (meanings H.Host host.new) (row_for command.now) result c }
     ensures others { LeavesBut written_roles (meanings H.Host host.old) (meanings H.Host host.new) }
 {
     let state = &ended.finished.state;

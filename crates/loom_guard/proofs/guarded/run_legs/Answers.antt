@@ -1,4 +1,4 @@
-use Rattle.std.proofs.Common.{[], Ok, refl, sym, ◌∙◌, ap, subst, arith}
+use Rattle.std.proofs.Common.{[], Ok, IsTrue, refl, sym, ◌∙◌, ap, subst, arith}
 use Rattle.loom_host.specs.declared.outside.Role.TheVariants.{Work, Transcript}
 use Rattle.image_reader.specs.Loaded.{heap_on}
 use Rattle.blue_model.specs.declared.cpu.Cpu.{Cpu}
@@ -108,19 +108,21 @@ returns-in-Ok-Ended g c =
       counted = turn.0;
       parked = turn.1;
       through = (turn.2.0, turn.2.1, λ work. (turn.2.2 (meanings host old) run course (inv.from work)).0);
-      kept = λ work told.
-          let keeps = (subst (λ (t : Turn). TurnKeeps (g.V.Vault.state c.args.vault.now) (g.V.Vault.state c.take_turn.new.vault) c.turns.kept (IsKeptImage (host.tells Work) lines row.steps run) (Ok t)) c.in-Ok-Ended.field-0-is (c.in-Ok-Ended.ensures.vault told (g.V.Vault.state c.args.vault.now) (meanings host old) run course inv.from (inv.keeps told))) in
-          has-last (g.V.Vault.state c.take_turn.new.vault) c.turns.kept _ keeps.1 (sym (turn.2.2 (meanings host old) run course (inv.from work)).1 ∙ serial-first lines row.steps (serial_of c.args.last) said (model_state x.state) heap);
-      stops = λ told.
-          let keeps = (subst (λ (t : Turn). TurnKeeps (g.V.Vault.state c.args.vault.now) (g.V.Vault.state c.take_turn.new.vault) c.turns.kept (IsKeptImage (host.tells Work) lines row.steps run) (Ok t)) c.in-Ok-Ended.field-0-is (c.in-Ok-Ended.ensures.vault told (g.V.Vault.state c.args.vault.now) (meanings host old) run course inv.from (inv.keeps told))) in (
+      legs =
+          let kept = λ (told : IsTrue g.V.Vault.tells). (subst (λ (t : Turn). TurnKeeps (g.V.Vault.state c.args.vault.now) (g.V.Vault.state c.take_turn.new.vault) c.turns.kept (IsKeptImage (host.tells Work) lines row.steps run) (Ok t)) c.in-Ok-Ended.field-0-is (c.in-Ok-Ended.ensures.vault told (g.V.Vault.state c.args.vault.now) (meanings host old) run course inv.from (inv.keeps told))) in (
             serial_of c.turns.kept,
-            keeps-gives (g.V.Vault.state c.args.vault.now) (g.V.Vault.state c.take_turn.new.vault) (serial_of c.turns.kept) (IsKeptImage (host.tells Work) lines row.steps run) (IsKeptImage (host.tells Work) lines row.steps (guarded_first (serial_of c.args.last) [] (model_state x.state) heap))
-                (λ serial image is work. checkpoint-first lines row.steps (serial_of c.args.last) said (model_state x.state) heap serial image (is work)) keeps.0,
+            λ told.
+                keeps-gives (g.V.Vault.state c.args.vault.now) (g.V.Vault.state c.take_turn.new.vault) (serial_of c.turns.kept) (IsKeptImage (host.tells Work) lines row.steps run) (IsKeptImage (host.tells Work) lines row.steps (guarded_first (serial_of c.args.last) [] (model_state x.state) heap))
+                (λ serial image is work. checkpoint-first lines row.steps (serial_of c.args.last) said (model_state x.state) heap serial image (is work)) (kept told).0,
+            record {
+              has = λ told. has-last (g.V.Vault.state c.take_turn.new.vault) c.turns.kept (serial_of c.turns.kept) (kept told).1 refl;
+              serial = λ work. sym (serial-first lines row.steps (serial_of c.args.last) said (model_state x.state) heap) ∙ (turn.2.2 (meanings host old) run course (inv.from work)).1;
+            },
+            tt,
           );
       file = λ work. file-then (host.roles old Work) (host.roles mid Work) (host.roles new Work) (inv.file work) (c.take_turn.ensures.file work);
       others = leaves-then (roles_at Running) (meanings host old) (meanings host mid) (meanings host new) inv.others c.take_turn.ensures.others;
       vault_later = (let low = inv.later in let high = c.take_turn.ensures.later in omega (arith, low, high));
-      ends = tt;
     }
 
 -- ---- it was stopped
@@ -143,17 +145,21 @@ returns-in-Err g c =
       counted = tt;
       parked = tt;
       through = tt;
-      kept = λ work told. tt;
-      stops = λ told. (
+      legs = (
         serial_of c.turns.kept,
-        keeps-gives (g.V.Vault.state c.args.vault.now) (g.V.Vault.state c.take_turn.new.vault) (serial_of c.turns.kept) (IsKeptImage (host.tells Work) lines row.steps run) (IsKeptImage (host.tells Work) lines row.steps (guarded_first (serial_of c.args.last) [] (model_state x.state) heap))
+        λ told.
+            keeps-gives (g.V.Vault.state c.args.vault.now) (g.V.Vault.state c.take_turn.new.vault) (serial_of c.turns.kept) (IsKeptImage (host.tells Work) lines row.steps run) (IsKeptImage (host.tells Work) lines row.steps (guarded_first (serial_of c.args.last) [] (model_state x.state) heap))
             (λ serial image is work. checkpoint-first lines row.steps (serial_of c.args.last) said (model_state x.state) heap serial image (is work))
-            (c.in-Err.ensures.vault told (g.V.Vault.state c.args.vault.now) (meanings host old) run course inv.from (inv.keeps told)),
+            (c.in-Err.ensures.vault told (g.V.Vault.state c.args.vault.now) (meanings host old) run course inv.from (inv.keeps told)).0,
+        tt,
+        (
+          λ told. (c.in-Err.ensures.vault told (g.V.Vault.state c.args.vault.now) (meanings host old) run course inv.from (inv.keeps told)).1,
+          stop-first host.tells (meanings host old) (meanings host new) (g.V.Vault.faults c.args.vault.now) (g.V.Vault.faults c.take_turn.new.vault) row lines (serial_of c.args.last) said (model_state x.state) heap course (serial_of c.turns.kept) c.in-Err.status
+              (legs-stop host.tells (meanings host old) (meanings host mid) (meanings host new) (g.V.Vault.faults c.args.vault.now) (g.V.Vault.faults c.turns.vault) (g.V.Vault.faults c.take_turn.new.vault) row lines (FromDisk host.tells row c.turns.first lines (serial_of c.turns.kept) c.turns.cpu (host.roles mid Transcript).put c.turns.image.state (heap_on host mid c.turns.disk c.turns.image.next))
+              course (serial_of c.turns.kept) c.in-Err.status inv.others.later inv.later c.in-Err.ensures.ends run inv.from),
+        ),
       );
       file = λ work. file-then (host.roles old Work) (host.roles mid Work) (host.roles new Work) (inv.file work) (c.take_turn.ensures.file work);
       others = leaves-then (roles_at Running) (meanings host old) (meanings host mid) (meanings host new) inv.others c.take_turn.ensures.others;
       vault_later = (let low = inv.later in let high = c.take_turn.ensures.later in omega (arith, low, high));
-      ends = stop-first host.tells (meanings host old) (meanings host new) (g.V.Vault.faults c.args.vault.now) (g.V.Vault.faults c.take_turn.new.vault) row lines (serial_of c.args.last) said (model_state x.state) heap course c.in-Err.status
-          (legs-stop host.tells (meanings host old) (meanings host mid) (meanings host new) (g.V.Vault.faults c.args.vault.now) (g.V.Vault.faults c.turns.vault) (g.V.Vault.faults c.take_turn.new.vault) row lines (FromDisk host.tells row c.turns.first lines (serial_of c.turns.kept) c.turns.cpu (host.roles mid Transcript).put c.turns.image.state (heap_on host mid c.turns.disk c.turns.image.next))
-          course c.in-Err.status inv.others.later inv.later c.in-Err.ensures.ends run inv.from);
     }

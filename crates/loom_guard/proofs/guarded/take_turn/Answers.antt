@@ -1,4 +1,4 @@
-use Rattle.std.proofs.Common.{◌≡◌, ℕ, ◌<◌, IsTrue, sym, ◌∙◌, ap, subst, arith}
+use Rattle.std.proofs.Common.{◌≡◌, ℕ, ◌<◌, IsTrue, refl, sym, ◌∙◌, ap, subst, arith}
 use Rattle.long_names.specs.Heap.{Heap}
 use Rattle.loom_host.specs.declared.outside.Role.TheVariants.{Work, Transcript}
 use Rattle.image_reader.specs.Loaded.{heap_on}
@@ -13,8 +13,10 @@ use Rattle.loom_run.specs.Stages.{Running, roles_at}
 use Rattle.loom_run.proofs.RunLaws.{fault_exit}
 use Rattle.loom_guard.specs.Legs.{FromDisk, Halts, IsCounted, KeepsWhere}
 use Rattle.loom_guard.specs.Turns.{IsKeptImage, KeptHalts}
+use Rattle.loom_guard.proofs.KeepingLaws.{checked-last}
 use Rattle.loom_guard.proofs.StretchLaws.{leaves-then}
 use Rattle.loom_guard.proofs.TurnLaws.{file-read, goes-on, keep-halts, kept-checkpoint, leaves-ended, leaves-kept, leaves-read, leg-halts, turn-refused}
+use Rattle.loom_guard.proofs.VaultLaws.{has-last}
 use Rattle.loom_guard.proofs.guarded.take_turn.Goals as goal
 
 -- ---- the leg was stopped
@@ -22,6 +24,7 @@ use Rattle.loom_guard.proofs.guarded.take_turn.Goals as goal
 pub returns-in_err-rest-clause-vault : goal.returns-in_err-rest-clause-vault
 returns-in_err-rest-clause-vault g c = λ told began before run course from keeps.
     turn-refused began (g.V.Vault.state c.args.vault.now) c.args.last (IsKeptImage (g.H.Host.tells Work) c.args.events.now c.args.command.now.steps run) c.from_residual.result c.in_err-rest.field-0.0 c.from_residual.ensures.1 keeps
+    (λ none. has-last (g.V.Vault.state c.args.vault.now) c.args.last (serial_of c.args.last) (c.requires.last told) refl)
 
 pub returns-in_err-rest-clause-ends : goal.returns-in_err-rest-clause-ends
 returns-in_err-rest-clause-ends g c =
@@ -35,9 +38,9 @@ returns-in_err-rest-clause-ends g c =
     let heap = heap_on host old c.args.rest x.next in
     let status = c.in_err-rest.field-0.0 in
     let last = serial_of c.args.last in
-    fault_exit (KeptHalts host.tells (meanings host old) (meanings host mid) vault vault row c.args.events.now (FromDisk host.tells row c.args.first c.args.events.now last c.args.cpu.now said x.state heap)) c.from_residual.result status c.from_residual.ensures.1
-    (leg-halts host.tells (meanings host old) (meanings host mid) vault row c.args.events.now (FromDisk host.tells row c.args.first c.args.events.now last c.args.cpu.now said x.state heap) status
-    (subst (λ (n : ℕ). Halts host.tells (meanings host old) (meanings host mid) row c.args.events.now (FromDisk host.tells row c.args.first c.args.events.now n c.args.cpu.now said x.state heap) status) c.serial_of.ensures c.in_err-rest.ensures.ends))
+    fault_exit (KeptHalts host.tells (meanings host old) (meanings host mid) vault vault row c.args.events.now (FromDisk host.tells row c.args.first c.args.events.now last c.args.cpu.now said x.state heap) last) c.from_residual.result status c.from_residual.ensures.1
+    (leg-halts host.tells (meanings host old) (meanings host mid) vault row c.args.events.now (FromDisk host.tells row c.args.first c.args.events.now last c.args.cpu.now said x.state heap) last status
+    (subst (λ (n : ℕ). Halts host.tells (meanings host old) (meanings host mid) row c.args.events.now (FromDisk host.tells row c.args.first c.args.events.now n c.args.cpu.now said x.state heap) n status) c.serial_of.ensures c.in_err-rest.ensures.ends))
 
 -- ---- the machine is to be kept
 
@@ -71,6 +74,7 @@ returns-in_err-rest-in-Kept-clause-vault g c = λ told began before run course f
     (λ text is work.
     kept-checkpoint host.tells (meanings host mid) row.core c.args.events.now row.steps run last then state left text (kept before run course (from work)) c.run_stretch.ensures.few
     (is work ∙ ap (λ (k : Heap). saved_text k state) (ended-heap host mid c.in_ok-rest.rest c.in_ok-rest.next left (leaves.1 work)))))
+    (checked-last (g.V.Vault.state c.args.vault.now) (g.V.Vault.state c.keep_point.new.vault) c.args.last c.in_err-rest-in-Kept.field-0.0 was (c.in_err-rest-in-Kept.ensures.left told))
 
 pub returns-in_err-rest-in-Kept-clause-file : goal.returns-in_err-rest-in-Kept-clause-file
 returns-in_err-rest-in-Kept-clause-file g c = λ work. file-read g.H.Host c.args.host.now c.run_stretch.new.host c.keep_point.new.host (c.run_stretch.ensures.file work) c.keep_point.ensures.read
@@ -98,7 +102,7 @@ returns-in_err-rest-in-Kept-clause-ends g c =
     let before = g.V.Vault.faults c.args.vault.now in
     let after = g.V.Vault.faults c.keep_point.new.vault in
     let status = c.in_err-rest-in-Kept.field-0.0 in
-    fault_exit (KeptHalts host.tells (meanings host old) (meanings host new) before after row c.args.events.now (FromDisk host.tells row c.args.first c.args.events.now last c.args.cpu.now said x.state heap)) c.from_residual-in_err-rest-in-Kept.result status c.from_residual-in_err-rest-in-Kept.ensures.1
+    fault_exit (KeptHalts host.tells (meanings host old) (meanings host new) before after row c.args.events.now (FromDisk host.tells row c.args.first c.args.events.now last c.args.cpu.now said x.state heap) last) c.from_residual-in_err-rest-in-Kept.result status c.from_residual-in_err-rest-in-Kept.ensures.1
     (keep-halts host old mid new before before after row c.args.first c.args.events.now last c.args.cpu.now then said x.state state heap left status c.run_stretch.ensures.others.later (omega arith) c.in_err-rest-in-Kept.ensures.refused c.keep_point.ensures.read c.run_stretch.ensures.few kept)
 
 -- ---- it was kept

@@ -1,6 +1,8 @@
-use Rattle.std.proofs.Common.{sym, subst}
+use Rattle.std.proofs.Common.{sym, ◌∙◌, ap, subst}
+use Rattle.blue_model.specs.Logs.{Course}
 use Rattle.guarded_run.specs.Course.{course_on}
 use Rattle.machine_run.specs.Run.{HaltsAs}
+use Rattle.loom_host.specs.declared.outside.Role.TheVariants.{Transcript}
 use Rattle.loom_memory.specs.Memory.{loom_told}
 use Rattle.loom_words.specs.Command.{row_for}
 use Rattle.loom_run.specs.Meanings.{meanings}
@@ -9,7 +11,9 @@ use Rattle.loom_run.specs.Steps.{IsRefusal, WasStopped}
 use Rattle.loom_run.proofs.MachineLaws.{bounds-later, file-left, outside-leaves, refused-running}
 use Rattle.loom_run.proofs.MemoryLaws.{begins-run, keeps-state}
 use Rattle.loom_guard.specs.Legs.{told_since}
+use Rattle.loom_guard.specs.Moments.{StopsAt}
 use Rattle.loom_guard.proofs.LegLaws.{bounds-core, comes-ok, stopped-since}
+use Rattle.loom_guard.proofs.MomentLaws.{moment-of}
 use Rattle.loom_guard.proofs.legs.loom_leg.Goals as goal
 
 pub whole_leg-requires-clause-state : goal.whole_leg-requires-clause-state
@@ -55,3 +59,18 @@ returns-in-Err-clause-refused g c =
     let row = row_for c.args.command.now in
     subst (λ status. IsRefusal g.H.Host.tells (meanings g.H.Host m.disk.host.now) (meanings g.H.Host n.disk.host.now) row Running status) (sym c.status_of.ensures)
     (refused-running g.H.Host m n row c.in-Err.halted.ran c.in-Err.ensures.ran (bounds-later row (loom_told g.H.Host m).bounds (loom_told g.H.Host n).bounds c.requires.bounds c.whole_leg.ensures.later.bounds) c.in-Err.halted.why c.in-Err.ensures.fault)
+
+pub returns-in-Err-clause-moment : goal.returns-in-Err-clause-moment
+unfolding loom_told
+returns-in-Err-clause-moment g c = λ work h begins run said course out same.
+    let old = loom_told g.H.Host c.args.memory.now in
+    let new = loom_told g.H.Host c.whole_leg.new.m in
+    let row = row_for c.args.command.now in
+    let lines = c.args.events.now in
+    let halted = c.in-Err.halted in
+    let begun = begins-run h c.args.state.now old begins in
+    let core = bounds-core row old.bounds c.requires.bounds in
+    let stops = c.in-Err.ensures.moment work h begun row.core run core out in
+    subst (λ status. StopsAt (g.H.Host.tells Transcript) row.steps lines run course said new.transcript c.args.serial status) (sym c.status_of.ensures)
+    (moment-of row.steps lines run course said new c.args.serial halted.ran c.in-Err.ensures.ran halted.why (subst (HaltsAs halted.why halted.ran row.steps new) same (c.in-Err.ensures.comes work h begun row.core run core out)) stops.serial_is
+    (λ why speaks. stops.says why speaks ∙ ap (λ (d : Course). d.said halted.ran) same))

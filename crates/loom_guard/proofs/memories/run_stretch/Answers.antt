@@ -91,9 +91,9 @@ returns-in-Err-clause-ends g c =
     let status = c.in-Err.status in
     let back = c.apart-host.ensures.now ∙ c.into_disk.ensures.now in
     let name = c.apart-host.ensures.host ∙ c.into_disk.ensures.host ∙ c.wound_leg-wound.ensures.lender ∙ c.begin_memory-memory.ensures.lender ∙ c.again-disk.ensures.host in
-    same-host end c.apart-host.result.0.now _ (λ h. Halts host.tells (meanings host c.args.host.now) (meanings host h) row c.args.events.now (FromDisk host.tells row c.args.first c.args.events.now c.args.serial c.args.cpu.now (host.roles c.args.host.now Transcript).put x.state (heap_on host c.args.host.now c.args.rest x.next)) status)
+    same-host end c.apart-host.result.0.now _ (λ h. Halts host.tells (meanings host c.args.host.now) (meanings host h) row c.args.events.now (FromDisk host.tells row c.args.first c.args.events.now c.args.serial c.args.cpu.now (host.roles c.args.host.now Transcript).put x.state (heap_on host c.args.host.now c.args.rest x.next)) c.args.serial status)
     (search (rules, sym name)) back
     (halts-from host.tells (meanings host c.args.host.now) (meanings host end) row c.args.events.now (FromMemory host.tells row c.args.first c.args.events.now c.args.serial c.args.cpu.now t x.state)
-    (FromDisk host.tells row c.args.first c.args.events.now c.args.serial c.args.cpu.now (host.roles c.args.host.now Transcript).put x.state (heap_on host c.args.host.now c.args.rest x.next)) status
+    (FromDisk host.tells row c.args.first c.args.events.now c.args.serial c.args.cpu.now (host.roles c.args.host.now Transcript).put x.state (heap_on host c.args.host.now c.args.rest x.next)) c.args.serial status
     (from-memory host c.args.host.now d.host.now c.args.rest d.rest x row c.args.first c.args.events.now c.args.serial c.args.cpu.now t c.again-disk.ensures.now c.again-disk.ensures.rest c.requires.image c.begin_memory-memory.ensures.begins c.begin_memory-memory.ensures.transcript)
-    (subst (λ h. Halts host.tells (meanings host h) (meanings host end) row c.args.events.now (FromMemory host.tells row c.args.first c.args.events.now c.args.serial c.args.cpu.now t x.state) status) (c.begin_memory-memory.ensures.now ∙ c.again-disk.ensures.now) c.in-Err.ensures.ends))
+    (subst (λ h. Halts host.tells (meanings host h) (meanings host end) row c.args.events.now (FromMemory host.tells row c.args.first c.args.events.now c.args.serial c.args.cpu.now t x.state) c.args.serial status) (c.begin_memory-memory.ensures.now ∙ c.again-disk.ensures.now) c.in-Err.ensures.ends))

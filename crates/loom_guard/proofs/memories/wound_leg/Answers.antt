@@ -19,14 +19,15 @@ returns-in_err-leg-clause-ends g c =
     let n = c.loom_leg.new.memory in
     let row = row_for c.args.command.now in
     let status = c.in_err-leg.field-0.0 in
-    fault_exit (Halts g.H.Host.tells (meanings g.H.Host m.disk.host.now) (meanings g.H.Host n.disk.host.now) row c.args.events.now (FromMemory g.H.Host.tells row c.args.first c.args.events.now c.args.serial c.args.cpu.now (loom_told g.H.Host m) c.args.state.now))
+    fault_exit (Halts g.H.Host.tells (meanings g.H.Host m.disk.host.now) (meanings g.H.Host n.disk.host.now) row c.args.events.now (FromMemory g.H.Host.tells row c.args.first c.args.events.now c.args.serial c.args.cpu.now (loom_told g.H.Host m) c.args.state.now) c.args.serial)
     c.from_residual.result status c.from_residual.ensures.1
     (record {
       stage = Running;
       late = inl refl;
       refusal = c.in_err-leg.ensures.refused;
       of_run = λ before run course from.
-          inl (stopped-at g.H.Host n row before course status (c.in_err-leg.ensures.comes from.1 from.0 from.2 run (before.roles Transcript).put course from.3.sets_out from.3.course_is));
+          stopped-at g.H.Host n row before c.args.events.now run c.args.serial course status (c.in_err-leg.ensures.comes from.1 from.0 from.2 run (before.roles Transcript).put course from.3.sets_out from.3.course_is)
+          (c.in_err-leg.ensures.moment from.1 from.0 from.2 run (before.roles Transcript).put course from.3.sets_out from.3.course_is);
     })
 
 pub returns-in_err-next-clause-room : goal.returns-in_err-next-clause-room
@@ -52,7 +53,7 @@ returns-in_err-next-clause-ends g c =
     let row = row_for c.args.command.now in
     let leg = c.in_ok-leg.leg in
     let status = c.in_err-next.field-0.0 in
-    fault_exit (Halts g.H.Host.tells (meanings g.H.Host m.disk.host.now) (meanings g.H.Host k.disk.host.now) row c.args.events.now (FromMemory g.H.Host.tells row c.args.first c.args.events.now c.args.serial c.args.cpu.now (loom_told g.H.Host m) c.args.state.now))
+    fault_exit (Halts g.H.Host.tells (meanings g.H.Host m.disk.host.now) (meanings g.H.Host k.disk.host.now) row c.args.events.now (FromMemory g.H.Host.tells row c.args.first c.args.events.now c.args.serial c.args.cpu.now (loom_told g.H.Host m) c.args.state.now) c.args.serial)
     c.from_residual-in_err-next.result status c.from_residual-in_err-next.ensures.1
     (record {
       stage = stage-of leg;

@@ -26,11 +26,11 @@ returns-in-Ok g c = record {
       let g0 = guarded_first first [] state heap in
       let run = guarded_course read.events row.steps first state heap in
       let through = c.in-Ok.ensures.through in
-      late-ended tells g.V.Vault.tells before (meanings host c.write_kept.new.host) (vault_meanings g.V.Vault c.args.vault.now) (vault_meanings g.V.Vault c.run_legs.new.vault) row read.events g0 run c.write_kept.result
+      let legs = c.in-Ok.ensures.legs in
+      late-ended tells g.V.Vault.tells before (meanings host c.write_kept.new.host) (vault_meanings g.V.Vault c.args.vault.now) (vault_meanings g.V.Vault c.run_legs.new.vault) row read.events g0 run legs.0 c.write_kept.result
       (c.write_kept.ensures.ends tells sub before through.0 run (used-finishing host.tells tells sub before mid far row used c.run_legs.ensures.file c.run_legs.ensures.others)
       (λ work. (through.1 (sub Work work), came-since host.tells tells sub before mid far row used c.run_legs.ensures.file c.run_legs.ensures.others c.in-Ok.ended.finished through.0 run (through.2 (sub Work work)))))
-      (λ work told. c.in-Ok.ensures.kept (sub Work work) told)
-      (λ told. (let s = c.run_legs.ensures.stops told in (s.0, keeps-gives _ _ s.0 _ _ (λ serial kept x work. x (sub Work work)) s.1)));
+      (λ told. legs.2.has told) (λ work. legs.2.serial (sub Work work)) (λ told. keeps-gives _ _ legs.0 _ _ (λ serial kept x work. x (sub Work work)) (legs.1 told));
   others = leaves-later (meanings g.H.Host c.args.host.now) (meanings g.H.Host c.run_legs.new.host) (meanings g.H.Host c.write_kept.new.host) c.run_legs.ensures.others c.write_kept.ensures.others;
   vault_later = c.run_legs.ensures.vault_later;
 }
@@ -48,8 +48,9 @@ returns g c = record {
       let heap = heap_on host c.args.host.now read.rest read.loaded.next in
       let g0 = guarded_first first [] state heap in
       let run = guarded_course read.events row.steps first state heap in
-      legs-stopped host.tells tells sub before mid far row used c.run_legs.ensures.file c.run_legs.ensures.others g.V.Vault.tells (vault_meanings g.V.Vault c.args.vault.now) (vault_meanings g.V.Vault c.run_legs.new.vault) read.events g0 run c.in-Err.status
-      c.in-Err.ensures.ends (λ told. (let s = c.run_legs.ensures.stops told in (s.0, keeps-gives _ _ s.0 _ _ (λ serial kept x work. x (sub Work work)) s.1)));
+      let legs = c.in-Err.ensures.legs in
+      legs-stopped host.tells tells sub before mid far row used c.run_legs.ensures.file c.run_legs.ensures.others g.V.Vault.tells (vault_meanings g.V.Vault c.args.vault.now) (vault_meanings g.V.Vault c.run_legs.new.vault) read.events g0 run legs.0 c.in-Err.status
+      legs.3.1 legs.3.0 (λ told. keeps-gives _ _ legs.0 _ _ (λ serial kept x work. x (sub Work work)) (legs.1 told));
   others = leaves-legs (meanings g.H.Host c.args.host.now) (meanings g.H.Host c.run_legs.new.host) c.run_legs.ensures.others;
   vault_later = c.run_legs.ensures.vault_later;
 }

@@ -59,7 +59,7 @@ returns-in-Ok-run g c = record {
       (λ work. (
         subst (λ h. HasEnded g.H.Host h c.apart-host.result.1 c.in-Ok-run.ended.next through.0) (sym back) (subst (λ r. HasEnded g.H.Host end.host.now r c.in-Ok-run.ended.next through.0) (sym rest) (through.1 work)),
         subst (λ h. CameThrough g.H.Host.tells before (meanings g.H.Host h) (row_for c.args.command.now) c.in-Ok-run.ended.finished through.0 run) (sym back) (went.1 work),
-      ))));
+      ))).0);
 }
 
 pub returns-in-Err : goal.returns-in-Err
