@@ -1,15 +1,12 @@
 -- A name that is left alone by calls on other files, moment by moment.
-use Rattle.std.proofs.Common.{◌≡◌, ◌≢◌, inl, inr, ⊎_elim, ℕ, List, [], ◌∷◌, ◌++◌, Bool, true, false, Option, None, Some, Result, Ok, Err, OnOk, OnErr, IfOk, IfErr, refl, sym, ap, ◌∙◌, subst, length, take, drop, is_err, ◌+◌, append_assoc}
+use Rattle.std.proofs.Common.{◌≡◌, ◌≢◌, inl, inr, ⊎_elim, ℕ, List, [], ◌∷◌, ◌++◌, Bool, false, Option, None, Some, Result, Ok, Err, OnOk, OnErr, IfOk, refl, sym, ap, ◌∙◌, subst, length, take, drop, is_err, ◌+◌, append_assoc}
 use Rattle.std.proofs.Math.Seq.{take-add}
 use Rattle.std.proofs.lemmas.List.{append-nil}
 use Rattle.std.proofs.lemmas.Bool.{false≢true}
 use Rattle.std.specs.Option.{option_map}
 use Rattle.file_system.specs.World.{Entry, FileState, Opening, Run, World, Moments, Throughout, Here, Then, MayLeave, IsOneOf, all, content_at, part_ending}
 use Rattle.file_system.specs.Calls.{Does, MayDo, SameNames, SameFilesBut, Finds, Makes, MakesOpen, MakesShut, Closes, Appends, Spoils, Changes, ChangesBy, CanRename, Settles, Renames, Removes, appended, opening, synced, unsynced}
-use Rattle.file_system.specs.declared.system.Kind.{Kind}
 use Rattle.file_system.specs.declared.system.Kind.TheVariants.{Regular}
-use Rattle.file_system.specs.declared.system.Refusal.{Refusal}
-use Rattle.file_system.specs.declared.system.Refusal.TheVariants.{Missing}
 use Rattle.file_system.specs.declared.system.Way.{Way}
 use Rattle.file_system.specs.declared.system.Way.TheVariants.{Append}
 use Rattle.file_saving.specs.Saving.{IsApart, IsStill, IsMoved, IsMovedForGood, IsStillOrMoved, IsUnfinished, IsFinished, IsOldOrNew, IsOpenFolder, IsSaved, IsSteady, IsUntouched, HoldsOldOrNew, KeepsName, LeavesName, being_written}

@@ -3,7 +3,9 @@ use Rattle.std.specs.Prelude.{◌≡◌, ◌≢◌, ◌⊎◌, ℕ, false, List,
 use Rattle.file_system.specs.Calls.{opening}
 use Rattle.file_system.specs.World.{Entry, Opening, World, Moments, MayLeave, Throughout, all, content_at, put_at}
 use Rattle.file_system.specs.declared.system.Kind.TheVariants.{Regular}
+use Rattle.file_system.specs.declared.system.Way.{Way}
 use Rattle.file_system.specs.declared.system.Way.TheVariants.{Append}
+use Rattle.std.specs.Option.{option_map}
 
 -- ---- in the words of files
 
@@ -26,9 +28,30 @@ pub record IsSaved (e : Entry) (bytes : List ℕ) (w : World) : Type 0 where
   pub now : content_at e w ≡ Some bytes
   pub lost : (left : World) → MayLeave w left → content_at e left ≡ Some bytes
 
+-- which file a descriptor is of, and how it is used
+pub record Use : Type 0 where
+  pub file : ℕ
+  pub way : Option Way
+
+abbrev pub use_of : Opening → Use
+use_of o = record { file = o.file; way = o.way }
+
+abbrev pub use_at : ℕ → World → Option Use
+use_at d w = option_map use_of (w.opened d)
+
+-- every descriptor is of the file that it was of
+abbrev pub KeepsUses : Moments → Moments → Type 0
+KeepsUses old new = (d : ℕ) (u : Use) → use_at d old.now ≡ Some u → use_at d new.now ≡ Some u
+
 -- what was accepted stays, through every descriptor
 pub record KeepsPut (old new : Moments) : Type 0 where
   pub is : (d : ℕ) → put_at d new.now ≡ put_at d old.now
+  pub uses : KeepsUses old new
+
+-- and through every other one
+pub record KeepsPutBut (d : ℕ) (old new : Moments) : Type 0 where
+  pub is : (k : ℕ) → k ≢ d → put_at k new.now ≡ put_at k old.now
+  pub uses : KeepsUses old new
 
 -- ---- in the words of the proof
 

@@ -2,7 +2,7 @@
 // disk. Until then the file of that name is as before, and where anything fails it stays so.
 ghost use Rattle.std.specs.Prelude.{◌≡◌, ◌≢◌, ◌≤◌, ◌<◌, ◌++◌, [], ℕ, List, Some, IsTrue, IfOk, OnOk, OnErr, length, take, string_bytes};
 ghost use Rattle.file_system.specs.World.{Entry, Moments, Throughout, World, all, part_ending};
-ghost use Rattle.file_saving.specs.Saving.{IsApart, IsFinished, IsMovedForGood, IsOldOrNew, IsOpenFolder, IsSaved, IsStillOrMoved, IsUnfinished, KeepsName, KeepsPut, LeavesName};
+ghost use Rattle.file_saving.specs.Saving.{IsApart, IsFinished, IsMovedForGood, IsOldOrNew, IsOpenFolder, IsSaved, IsStillOrMoved, IsUnfinished, KeepsName, KeepsPut, KeepsPutBut, LeavesName, Use, use_at};
 
 use file_system::{Kind, Making, Refusal, System, Way};
 use std::alloc::{AllocError, Global};
@@ -60,6 +60,7 @@ fn open_part<S: System>(
     ensures path { IfOk result (λ s. string_bytes s.path ≡ string_bytes path) }
     ensures part { IfOk result (λ s. string_bytes s.part ≡ string_bytes part) }
     ensures begun { IsTrue S.tells → IfOk result (λ s. IsUnfinished (S.entry (string_bytes part)) s.descriptor s.file [] (S.moments system.new).now) }
+    ensures fresh { IsTrue S.tells → (d : ℕ) (u : Use) → use_at d (S.moments system.old).now ≡ Some u → IfOk result (λ s. d ≢ s.descriptor) }
     ensures puts { IsTrue S.tells → KeepsPut (S.moments system.old) (S.moments system.new) }
 {
     let opened = system.open(part.as_str(), Way::Append, Making::New, mode)?;
@@ -170,6 +171,7 @@ pub fn begin<S: System>(
     ensures keeps { IsTrue S.tells → KeepsName (S.entry name.now) (S.moments system.old) (S.moments system.new) }
     ensures path { IfOk result (λ s. string_bytes s.path ≡ name.now) }
     ensures begun { IsTrue S.tells → IfOk result (λ s. IsUnfinished (S.entry (string_bytes s.part)) s.descriptor s.file [] (S.moments system.new).now) }
+    ensures fresh { IsTrue S.tells → (d : ℕ) (u : Use) → use_at d (S.moments system.old).now ≡ Some u → IfOk result (λ s. d ≢ s.descriptor) }
     ensures puts { IsTrue S.tells → KeepsPut (S.moments system.old) (S.moments system.new) }
 {
     let Ok(path) = String::from_str(alloc, name) else {
@@ -217,6 +219,8 @@ pub fn write<S: System>(system: &mut S, saving: &Saving, buf: &[u8]) -> Result<u
         → IfOk result (λ n. IsUnfinished (S.entry (string_bytes saving.now.part)) saving.now.descriptor saving.now.file (bytes ++ take n buf.now) (S.moments system.new).now) }
     ensures puts { IsTrue S.tells → (bytes : List ℕ) → IsUnfinished (S.entry (string_bytes saving.now.part)) saving.now.descriptor saving.now.file bytes (S.moments system.old).now
         → OnErr result (KeepsPut (S.moments system.old) (S.moments system.new)) }
+    ensures others { IsTrue S.tells → (bytes : List ℕ) → IsUnfinished (S.entry (string_bytes saving.now.part)) saving.now.descriptor saving.now.file bytes (S.moments system.old).now
+        → OnOk result (KeepsPutBut saving.now.descriptor (S.moments system.old) (S.moments system.new)) }
 {
     system.append(saving.descriptor, buf)
 }

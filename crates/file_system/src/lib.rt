@@ -15,10 +15,9 @@
 //! Read `specs/World.antt` first, then `Calls.antt`. How a file is used belongs to its opening (`way`), so that a system that passes the calls
 //! on has nothing to decide.
 //!
-//! - Proved: Nothing here: what stands over it holds over every system that is as the clauses say.
+//! - Proved: Nothing here: what stands over it holds over every system that is as the clauses say. `memory_files` meets all clauses together.
 //! - Tested: Nothing: it has no code.
-//! - Not said: That one system can meet all clauses together; modes of files, how full a disk is, other processes that change the same files,
-//!   and times.
+//! - Not said: Modes of files, how full a disk is, other processes that change the same files, and times.
 #![tactic(auto)]
 
 mod system;

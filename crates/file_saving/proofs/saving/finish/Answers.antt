@@ -34,3 +34,6 @@ pub returns-clause-puts : goal.returns-clause-puts
 returns-clause-puts g c told bytes u =
     let finished = from-ok c.settle.result _ c.is_err.ensures.value c.if-is_err.false (c.settle.ensures.finished told bytes u) in
     puts-then _ _ _ (c.settle.ensures.puts told bytes u) (c.take_name.ensures.puts told bytes finished)
+
+pub returns-then-is_err-clause-puts : goal.returns-then-is_err-clause-puts
+returns-then-is_err-clause-puts g c told bytes u = puts-then _ _ _ (c.settle.ensures.puts told bytes u) (c.discard.ensures.puts told)

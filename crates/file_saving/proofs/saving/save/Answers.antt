@@ -1,6 +1,6 @@
 use Rattle.std.proofs.Common.{ap, ◌∙◌, List, ℕ, ◌++◌}
 use Rattle.file_system.specs.World.{part_ending}
-use Rattle.file_saving.proofs.SavingLaws.{entry-apart, good-before, keeps-old, keeps-then, keeps-untouched, moves-new, saved-ok}
+use Rattle.file_saving.proofs.SavingLaws.{entry-apart, keeps-old, keeps-then, keeps-untouched, moves-new, saved-ok}
 use Rattle.file_saving.proofs.saving.save.Goals as goal
 
 pub returns-in_err-saving-clause-old_or_new : goal.returns-in_err-saving-clause-old_or_new

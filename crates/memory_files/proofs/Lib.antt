@@ -1,0 +1,4 @@
+pub mod Files
+pub mod Laws
+pub mod Read
+pub mod Relations
