@@ -95,7 +95,7 @@ const STEPS: [Step; 55] = [
     Step::Read(4_456_448, 24),
     Step::Read(4_456_424, 24),
     Step::Read(0, 24),
-    // the shortest and the longest by a window, and those that aren't
+    // short and longer pieces
     Step::Read(0, 23),
     Step::Read(0, 24),
     Step::Read(0, 512),
@@ -164,6 +164,13 @@ fn memory(alloc: Global, nth: u64) -> Result<MemoryHost, AllocError> {
     Ok(host)
 }
 
+// Windows over a host where Work was attached before, so that nothing is known of its pages.
+fn opened(alloc: Global, nth: u64) -> Result<Windowed<MemoryHost>, Fail> {
+    let mut host = memory(alloc, nth)?;
+    host.attach(Role::Work, "w")?;
+    Ok(Windowed::new(alloc, host))
+}
+
 // How many calls of `write_at` came to the host inside and went through.
 fn written(host: &mut Windowed<MemoryHost>) -> Result<u64, Fail> {
     host.write(Role::Transcript, b".")?;
@@ -227,6 +234,27 @@ fn alike_for_each(alloc: Global, steps: &[Step]) -> Result<bool, AllocError> {
     Ok(alike)
 }
 
+// The same where Work was attached before, with the steps behind the attach.
+fn alike_behind_attach(alloc: Global, steps: &[Step]) -> Result<bool, Fail> {
+    let mut alike = true;
+    for nth in 2..=10 {
+        let mut plain = MemoryHost::new(alloc, 100)?;
+        plain.attach(Role::Work, "w")?;
+        let mut windowed = opened(alloc, nth)?;
+        alike = alike && alike_until_failed(&mut plain, &mut windowed, &steps[1..]);
+    }
+    Ok(alike)
+}
+
+#[test]
+fn windows_up_to_a_failure_of_unknown_pages(rt: HostRuntime) -> Result<(), Fail> {
+    assert!(rt; alike_behind_attach(rt.alloc(), &FAILING)?);
+    assert!(rt; alike_behind_attach(rt.alloc(), &FAILING_OVER)?);
+    assert!(rt; alike_behind_attach(rt.alloc(), &TURNS)?);
+    assert!(rt; alike_behind_attach(rt.alloc(), &BESIDE)?);
+    Ok(())
+}
+
 #[test]
 fn windows_up_to_a_failure(rt: HostRuntime) -> Result<(), Fail> {
     assert!(rt; alike_for_each(rt.alloc(), &FAILING)?);
@@ -241,8 +269,8 @@ fn windows_take_turns(rt: HostRuntime) -> Result<(), Fail> {
     let mut plain = MemoryHost::new(rt.alloc(), 100)?;
     let mut windowed = Windowed::new(rt.alloc(), MemoryHost::new(rt.alloc(), 100)?);
     assert_eq!(rt; first_apart(&mut plain, &mut windowed, &TURNS), None);
-    // the first to page 1,088, page 0 as it makes place, and the last, which is the first to page 0 again
-    assert_eq!(rt; written(&mut windowed)?, 3);
+    // page 0 as it makes place, and page 1,088 as page 0 is written again
+    assert_eq!(rt; written(&mut windowed)?, 2);
     Ok(())
 }
 
@@ -283,8 +311,7 @@ fn windows_beside_other_roles(rt: HostRuntime) -> Result<(), Fail> {
     Ok(())
 }
 
-const AGAIN: [Step; 12] = [
-    Step::Attach,
+const AGAIN: [Step; 11] = [
     Step::Read(0, 64),
     Step::Read(4_096, 24),
     Step::Write(4_090, b"abcdefghijkl"),
@@ -298,12 +325,25 @@ const AGAIN: [Step; 12] = [
     Step::Read(4_095, 8),
 ];
 
-// The fifth call on Work would fail, and there is none: what lies in a window isn't asked for again, nor what was written to one, a page that
-// was read is written where it lies, and a glance at a page that has no other place takes none away.
+// The fifth call on Work would fail, and there is none: what lies in a window isn't asked for again, nor what was written to one, and a page
+// that was read is written where it lies.
 #[test]
 fn a_window_is_read_once(rt: HostRuntime) -> Result<(), Fail> {
     let mut plain = MemoryHost::new(rt.alloc(), 100)?;
-    let mut windowed = Windowed::new(rt.alloc(), memory(rt.alloc(), 5)?);
+    plain.attach(Role::Work, "w")?;
+    let mut windowed = opened(rt.alloc(), 5)?;
+    assert_eq!(rt; first_apart(&mut plain, &mut windowed, &AGAIN), None);
+    assert_eq!(rt; windowed.fault_count(Role::Work), 0);
+    Ok(())
+}
+
+// The second call on Work would fail, and there is none: a page that was never written isn't read.
+#[test]
+fn a_blank_page_is_not_read(rt: HostRuntime) -> Result<(), Fail> {
+    let mut plain = MemoryHost::new(rt.alloc(), 100)?;
+    plain.attach(Role::Work, "w")?;
+    let mut windowed = Windowed::new(rt.alloc(), memory(rt.alloc(), 2)?);
+    windowed.attach(Role::Work, "w")?;
     assert_eq!(rt; first_apart(&mut plain, &mut windowed, &AGAIN), None);
     assert_eq!(rt; windowed.fault_count(Role::Work), 0);
     Ok(())
@@ -325,8 +365,9 @@ const BESIDE: [Step; 9] = [
 #[test]
 fn a_read_has_its_own_window(rt: HostRuntime) -> Result<(), Fail> {
     let mut plain = MemoryHost::new(rt.alloc(), 100)?;
-    let mut windowed = Windowed::new(rt.alloc(), memory(rt.alloc(), 4)?);
-    assert_eq!(rt; first_apart(&mut plain, &mut windowed, &BESIDE), None);
+    plain.attach(Role::Work, "w")?;
+    let mut windowed = opened(rt.alloc(), 4)?;
+    assert_eq!(rt; first_apart(&mut plain, &mut windowed, &BESIDE[1..]), None);
     assert_eq!(rt; windowed.fault_count(Role::Work), 0);
     Ok(())
 }
@@ -334,15 +375,13 @@ fn a_read_has_its_own_window(rt: HostRuntime) -> Result<(), Fail> {
 // A read that fails leaves what is kept back; a write that fails makes all windows forget, so that what is inside is read.
 #[test]
 fn windows_after_a_failure(rt: HostRuntime) -> Result<(), Fail> {
-    let mut windowed = Windowed::new(rt.alloc(), memory(rt.alloc(), 3)?);
+    let mut windowed = opened(rt.alloc(), 3)?;
     let mut buf = [0; 8];
-    windowed.attach(Role::Work, "w")?;
     windowed.write_at(0, b"kept")?;
     assert!(rt; windowed.read_at(4_456_448, &mut buf).is_err());
     windowed.read_at(0, &mut buf)?;
     assert_eq!(rt; &buf[..], b"kept\0\0\0\0".as_slice());
-    let mut windowed = Windowed::new(rt.alloc(), memory(rt.alloc(), 3)?);
-    windowed.attach(Role::Work, "w")?;
+    let mut windowed = opened(rt.alloc(), 3)?;
     windowed.write_at(0, b"lost")?;
     assert!(rt; windowed.write_at(4_456_448, b"x").is_err());
     windowed.read_at(0, &mut buf)?;

@@ -1,2 +1,4 @@
 pub mod Ends
 pub mod Rows
+pub mod Paths
+pub mod Runs

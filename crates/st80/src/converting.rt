@@ -1,45 +1,49 @@
 // The commands `make`, `list` and `asm`.
-ghost use Rattle.std.specs.Prelude.{IfOk};
+ghost use Rattle.std.specs.Prelude.{◌≡◌, IfOk};
 ghost use Rattle.loom_words.specs.Command.{paths_for};
 ghost use Rattle.loom_words.specs.Words.{ArePaths, texts_of};
-ghost use Rattle.st80.specs.Ends.{IsLoomCode};
+ghost use Rattle.st80.specs.Ends.{IsEndOf};
 ghost use Rattle.st80.specs.Rows.{verb_for};
+ghost use Rattle.st80.specs.Runs.{IsBetween, IsMaking};
+ghost use Rattle.st80_files.specs.Inside.{folder_at};
+ghost use Rattle.st80_outside.specs.Ran.{words_of};
 ghost use Rattle.st80_outside.specs.Right.{IsRight};
 
 use crate::apart::{expect_apart, file_of};
+use crate::paths::{read_path, written_path};
 use crate::rows::{clash_failed, print_row};
-use crate::running::{read_path, written_path};
-use crate::telling::{end_of, tell_beside};
+use crate::telling::{Done, ended, tell_beside};
 use crate::why::tell_why;
 use loom_words::{Conversion, Making, Status};
-use st80_files::{Code, Failure, STREAM, Temporary, copy_out, try_writing};
+use st80_files::{Failure, STREAM, Temporary, copy_out, try_writing};
 use st80_looks::explain;
-use st80_outside::{Hearing, run_row};
+use st80_outside::{Hearing, ran_row};
 use st80_words::{Clash, LargeNumber, asm_row, list_row, make_row};
 use std::alloc::{AllocError, Global};
 
 // Runs a row whose file goes to standard output where its word is `-`.
-fn convert(rt: HostRuntime, row: &Vec<String>, word: &str, target: &str) -> Result<Code, Failure>
-    requires right { IsRight (texts_of row.now.items) }
-    ensures { IfOk result IsLoomCode }
+fn convert(rt: HostRuntime, row: Vec<String>, word: &str, target: &str) -> Result<Done, Failure>
+    requires right { IsRight (texts_of row.items) }
+    ensures row { IfOk result (λ done. words_of done.ran ≡ texts_of row.items) }
+    ensures code { IfOk result IsEndOf }
 {
     if word != STREAM {
         try_writing(rt, target)?;
     }
-    print_row(rt, row);
-    let status = run_row(rt, Hearing::Output, row)?;
-    match status {
+    print_row(rt, &row);
+    let ran = ran_row(rt, Hearing::Output, row)?;
+    match ran.status() {
         Status::Made { .. } | Status::Listed { .. } | Status::Assembled { .. } => {
             if word == STREAM {
                 copy_out(rt, target)?;
             }
         }
-        _ => {
-            tell_beside(rt, explain(rt, &status, row));
-            tell_why(rt, &status, row);
+        status => {
+            tell_beside(rt, explain(rt, status, ran.row()));
+            tell_why(rt, status, ran.row());
         }
     }
-    Ok(end_of(&status))
+    Ok(ended(ran))
 }
 
 /// The command `make`.
@@ -48,8 +52,9 @@ pub fn make(
     room: &Temporary,
     number: LargeNumber,
     file: &str,
-) -> Result<Code, Failure>
-    ensures { IfOk result IsLoomCode }
+) -> Result<Done, Failure>
+    ensures row { IfOk result (λ done. IsMaking (folder_at room.now) number.number file.now (words_of done.ran)) }
+    ensures code { IfOk result IsEndOf }
 {
     let target = written_path(rt, room, file, "made")?;
     let making = Making {
@@ -57,7 +62,7 @@ pub fn make(
         file: target.as_str(),
     };
     let row = make_row(rt.alloc(), &making)?;
-    convert(rt, &row, file, target.as_str())
+    convert(rt, row, file, target.as_str())
 }
 
 /// Which way an image and a text are converted.
@@ -99,8 +104,9 @@ pub fn between(
     way: Way,
     source: &str,
     word: &str,
-) -> Result<Code, Failure>
-    ensures { IfOk result IsLoomCode }
+) -> Result<Done, Failure>
+    ensures row { IfOk result (λ done. IsBetween (folder_at room.now) way source.now word.now (words_of done.ran)) }
+    ensures code { IfOk result IsEndOf }
 {
     let (read, written) = names_of(way);
     expect_apart(
@@ -119,5 +125,5 @@ pub fn between(
         target: target.as_str(),
     };
     let row = row_of(rt, way, &conversion)?;
-    convert(rt, &row, word, target.as_str())
+    convert(rt, row, word, target.as_str())
 }

@@ -2,16 +2,16 @@
 //!
 //! `main` reads the words (`st80_words`), makes a folder of the run's own in the temporary folder, does what was asked for, and removes the
 //! folder. A run is a row of words for `loom`: `running` finds its files and tries those that will be written, `apart` refuses two that are one,
-//! `run_row` of `st80_outside` calls `loom_kept` with the row, and behind it `explain` and `why` say what the answer means and what the system
+//! `ran_row` of `st80_outside` calls `loom_kept` with the row, and behind it `explain` and `why` say what the answer means and what the system
 //! answers about a file. `stopping` keeps the machine as it was before the bytecode that stopped it, by running the same again up to there.
 //!
 //! All texts of errors go to standard error. What is shown goes to standard output.
 //!
 //! - Proved: It ends, nothing panics, and the exit code is one of the table in `specs/Codes.antt` (of st80_files). Each row that it runs is one that
-//!   `loom` finds right, of the files and numbers of its command (`specs/Rows.antt`). A command that runs one ends with a code of `loom`, or
-//!   says what else failed (`specs/Ends.antt`).
+//!   `loom` finds right, in which each role has the file that was asked for it, and the numbers are those that were asked for (`specs/Runs.antt`,
+//!   `specs/Paths.antt`). A command that runs one ends with the code of `loom` for how that run ended, or says what else failed (`specs/Ends.antt`).
 //! - Tested: What it says, shows, writes and touches, on real files and streams, with more than a hundred mistakes (`tests/desk.sh`).
-//! - Not said: What files and streams do, and the texts. That the code is that of this run's own status is read in the code.
+//! - Not said: What files and streams do, and the texts. That a command's own code becomes that of the process is read in the code.
 #![tactic(auto)]
 
 ghost use Rattle.std.specs.Prelude.{◌≡◌};
@@ -21,6 +21,7 @@ ghost use Rattle.st80_files.specs.declared.codes.Code.{Code};
 
 mod apart;
 mod converting;
+mod paths;
 mod rows;
 mod running;
 mod stopping;
@@ -77,16 +78,20 @@ fn draw(
 
 fn answer_in(rt: HostRuntime, room: &Temporary, request: &Request<'_>) -> Result<Code, Failure> {
     match *request {
-        Request::Run { image, running } => run(rt, room, Source::Image(image), &running),
+        Request::Run { image, running } => Ok(run(rt, room, Source::Image(image), &running)?.code),
         Request::Guard {
             image,
             vault,
             running,
-        } => run(rt, room, Source::Guarded(image, vault), &running),
-        Request::Resume { vault, running } => run(rt, room, Source::Kept(vault), &running),
-        Request::Make { number, file } => make(rt, room, number, file),
-        Request::List { image, text } => between(rt, room, Way::ToText, image, text),
-        Request::Assemble { text, image } => between(rt, room, Way::ToImage, text, image),
+        } => Ok(run(rt, room, Source::Guarded(image, vault), &running)?.code),
+        Request::Resume { vault, running } => {
+            Ok(run(rt, room, Source::Kept(vault), &running)?.code)
+        }
+        Request::Make { number, file } => Ok(make(rt, room, number, file)?.code),
+        Request::List { image, text } => { Ok(between(rt, room, Way::ToText, image, text)?.code) }
+        Request::Assemble { text, image } => {
+            Ok(between(rt, room, Way::ToImage, text, image)?.code)
+        }
         Request::Picture {
             pbm,
             png,

@@ -1,33 +1,27 @@
 // The commands that run a machine: where its files are, and what is done behind the run.
-ghost use Rattle.std.specs.Prelude.{IfOk};
+ghost use Rattle.std.specs.Prelude.{◌≡◌, IfOk};
 ghost use Rattle.loom_words.specs.Command.{HasLimits};
-ghost use Rattle.st80.specs.Ends.{IsLoomCode};
+ghost use Rattle.st80.specs.Ends.{IsEndOf};
+ghost use Rattle.st80.specs.Paths.{AreFiles, files_at};
+ghost use Rattle.st80.specs.Runs.{HasNumbers, IsRunOf, files_for};
+ghost use Rattle.st80_files.specs.Inside.{folder_at};
+ghost use Rattle.st80_outside.specs.Ran.{words_of};
 
 use crate::apart::{expect_apart, file_of};
+use crate::paths::{Paths, paths_of, source_word};
 use crate::rows::{Source, print_row, row_of};
 use crate::stopping::keep_stopped;
-use crate::telling::{end_of, tell_beside};
+use crate::telling::{Done, ended, tell_beside};
 use crate::why::tell_why;
 use loom_outside::Identity;
 use loom_words::{Command, Status};
 use st80_files::{
-    Code, Failure, STREAM, Stated, Temporary, copy_in, copy_out, copy_pipe, failed, is_pipe,
-    stated_of, try_writing,
+    Code, Failure, STREAM, Stated, Temporary, copy_out, failed, stated_of, try_writing,
 };
 use st80_looks::{Drawing, drawing_of, explain, finish_picture};
-use st80_outside::{Hearing, run_row};
-use st80_words::{Running, Saving, Unused, null_path, sizes_for};
+use st80_outside::{Hearing, Ran, ran_row};
+use st80_words::{Running, Saving, sizes_for};
 use std::fs::File;
-
-/// The files of a run, by their paths.
-#[derive(Drop)]
-pub struct Paths {
-    pub image: String,
-    pub events: String,
-    pub work: String,
-    pub saved: String,
-    pub display: String,
-}
 
 /// A run: what runs, how, where its files are, and what its image states.
 #[derive(Drop)]
@@ -39,128 +33,11 @@ pub struct Job<'a> {
     pub stated: Stated,
 }
 
-/// A file that is read: standard input, or another pipe, is copied first.
-pub fn read_path(
-    rt: HostRuntime,
-    room: &Temporary,
-    word: &str,
-    name: &str,
-) -> Result<String, Failure> {
-    let is_stream = word == STREAM;
-    if !is_stream && !is_pipe(rt, word) {
-        return Ok(String::from_str(rt.alloc(), word)?);
-    }
-    let path = room.file(rt, name)?;
-    if is_stream {
-        copy_in(rt, path.as_str())?;
-    } else {
-        copy_pipe(rt, word, path.as_str())?;
-    }
-    Ok(path)
-}
-
-/// A file that is written: what goes to standard output is written in the temporary folder first.
-pub fn written_path(
-    rt: HostRuntime,
-    room: &Temporary,
-    word: &str,
-    name: &str,
-) -> Result<String, Failure> {
-    if word == STREAM {
-        return Ok(room.file(rt, name)?);
-    }
-    Ok(String::from_str(rt.alloc(), word)?)
-}
-
-// Where the image goes that the run leaves. `source` is the word that the image comes from, or the vault.
-fn saved_path(
-    rt: HostRuntime,
-    room: &Temporary,
-    saving: Saving<'_>,
-    source: &str,
-) -> Result<String, Failure> {
-    let alloc = rt.alloc();
-    match saving {
-        Saving::Nowhere => Ok(String::from_str(alloc, null_path(Unused::Saved))?),
-        Saving::Beside if source == STREAM => {
-            Ok(String::from_str(alloc, null_path(Unused::Saved))?)
-        }
-        Saving::Beside => Ok(format!(in alloc; "{source}.saved")?),
-        Saving::Over if source == STREAM => Err(failed(
-            alloc,
-            Code::Words,
-            "--in-place can't write over standard input; give --save FILE",
-        )),
-        Saving::Over => Ok(String::from_str(alloc, source)?),
-        Saving::To(word) => written_path(rt, room, word, "saved"),
-    }
-}
-
-/// The word that the image comes from, or the vault.
-pub fn source_word<'a>(source: Source<'a>) -> &'a str {
-    match source {
-        Source::Image(image) | Source::Guarded(image, _) => image,
-        Source::Kept(vault) => vault,
-    }
-}
-
-fn image_path(rt: HostRuntime, room: &Temporary, source: Source<'_>) -> Result<String, Failure> {
-    match source {
-        Source::Kept(_) => Ok(String::new(rt.alloc())),
-        Source::Image(image) | Source::Guarded(image, _) => read_path(rt, room, image, "image"),
-    }
-}
-
-pub fn events_path(
-    rt: HostRuntime,
-    room: &Temporary,
-    events: Option<&str>,
-) -> Result<String, Failure> {
-    match events {
-        Some(word) => read_path(rt, room, word, "events"),
-        None => Ok(String::from_str(rt.alloc(), null_path(Unused::Events))?),
-    }
-}
-
-fn display_path(
-    rt: HostRuntime,
-    room: &Temporary,
-    drawing: Drawing<'_>,
-) -> Result<String, Failure> {
-    match drawing {
-        Drawing::Nowhere => Ok(String::from_str(rt.alloc(), null_path(Unused::Display))?),
-        Drawing::Pbm(file) => Ok(String::from_str(rt.alloc(), file)?),
-        _ => Ok(room.file(rt, "picture")?),
-    }
-}
-
-fn paths_of(
-    rt: HostRuntime,
-    room: &Temporary,
-    source: Source<'_>,
-    running: &Running<'_>,
-    drawing: Drawing<'_>,
-) -> Result<Paths, Failure> {
-    let image = image_path(rt, room, source)?;
-    let events = events_path(rt, room, running.events)?;
-    let work = match running.work {
-        Some(word) => String::from_str(rt.alloc(), word)?,
-        None => room.file(rt, "work")?,
-    };
-    let saved = saved_path(rt, room, running.saving, source_word(source))?;
-    let display = display_path(rt, room, drawing)?;
-    Ok(Paths {
-        image,
-        events,
-        work,
-        saved,
-        display,
-    })
-}
-
 /// The run as a command of `loom`.
 pub fn command_of<'a>(job: &'a Job<'_>) -> Command<'a>
     ensures limits { HasLimits result }
+    ensures files { files_for result ≡ files_at job.now.paths }
+    ensures numbers { HasNumbers job.now.running job.now.stated result }
 {
     let sizes = sizes_for(&job.running.sizes, job.stated.objects, job.stated.bytes);
     Command {
@@ -306,7 +183,11 @@ fn job_of<'a>(
     room: &Temporary,
     source: Source<'a>,
     running: &Running<'a>,
-) -> Result<Job<'a>, Failure> {
+) -> Result<Job<'a>, Failure>
+    ensures source { IfOk result (λ job. job.source ≡ source.entry) }
+    ensures running { IfOk result (λ job. job.running ≡ running.now) }
+    ensures files { IfOk result (λ job. AreFiles (folder_at room.now) source.entry running.now job.drawing (files_at job.paths)) }
+{
     check_streams(rt, source, running)?;
     let drawing = drawing_of(rt, running.picture);
     let paths = paths_of(rt, room, source, running, drawing)?;
@@ -356,20 +237,23 @@ fn hearing_of(job: &Job<'_>) -> Hearing {
 }
 
 // Says why a run ended so that didn't go through. What fails in that is told, and changes no code.
-fn tell_ending(rt: HostRuntime, room: &Temporary, job: &Job<'_>, status: &Status, row: &[String]) {
-    tell_beside(rt, explain(rt, status, row));
-    tell_why(rt, status, row);
+fn tell_ending(rt: HostRuntime, room: &Temporary, job: &Job<'_>, ran: &Ran) {
+    let status = ran.status();
+    tell_beside(rt, explain(rt, status, ran.row()));
+    tell_why(rt, status, ran.row());
     tell_beside(rt, keep_stopped(rt, room, job, status));
 }
 
-/// Runs a machine. Its code is that of the run, whatever fails in what is said of it.
+/// Runs a machine. Its row is of the files and the numbers that were asked for, and its code is that of the run, whatever fails in what is said of
+/// it.
 pub fn run(
     rt: HostRuntime,
     room: &Temporary,
     source: Source<'_>,
     running: &Running<'_>,
-) -> Result<Code, Failure>
-    ensures { IfOk result IsLoomCode }
+) -> Result<Done, Failure>
+    ensures row { IfOk result (λ done. IsRunOf (folder_at room.now) source.entry running.now (words_of done.ran)) }
+    ensures code { IfOk result IsEndOf }
 {
     let job = job_of(rt, room, source, running)?;
     check_image(rt, &job)?;
@@ -378,10 +262,10 @@ pub fn run(
     let command = command_of(&job);
     let row = row_of(rt, source, &command)?;
     print_row(rt, &row);
-    let status = run_row(rt, hearing_of(&job), &row)?;
-    match status {
+    let ran = ran_row(rt, hearing_of(&job), row)?;
+    match ran.status() {
         Status::Done { .. } | Status::Quit { .. } => finish(rt, &job)?,
-        _ => tell_ending(rt, room, &job, &status, &row),
+        _ => tell_ending(rt, room, &job, &ran),
     }
-    Ok(end_of(&status))
+    Ok(ended(ran))
 }

@@ -1,14 +1,16 @@
 // The machine as it was before the bytecode that stopped it: a run is the same each time, so it is run again, and ends there.
+ghost use Rattle.std.specs.Prelude.{◌≡◌};
 ghost use Rattle.loom_words.specs.Command.{HasLimits};
 
+use crate::paths::source_word;
 use crate::rows::{Source, row_of};
-use crate::running::{Job, command_of, source_word};
+use crate::running::{Job, command_of};
 use crate::why::tell_why;
 use loom_words::{Command, MOST_CORE, MOST_ENTRIES, MOST_STEPS, Status};
 use st80_explain::put_stuck;
 use st80_files::{Failure, STREAM, Temporary, bytes_of, copy_out};
 use st80_looks::labelled;
-use st80_outside::{Hearing, run_row};
+use st80_outside::{Hearing, ran_row};
 use st80_words::{Unused, null_path};
 
 // After how many bytecodes the machine stopped, where it was stopped by the next one.
@@ -75,11 +77,11 @@ fn run_until(
         return Ok(false);
     };
     let row = row_of(rt, source, &command)?;
-    let status = run_row(rt, Hearing::Nobody, &row)?;
-    if matches!(status, Status::Done { .. } | Status::Quit { .. }) {
+    let ran = ran_row(rt, Hearing::Nobody, row)?;
+    if matches!(ran.status(), Status::Done { .. } | Status::Quit { .. }) {
         return Ok(true);
     }
-    tell_unkept(rt, &status, &row);
+    tell_unkept(rt, ran.status(), ran.row());
     Ok(false)
 }
 

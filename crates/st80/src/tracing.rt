@@ -3,7 +3,7 @@ ghost use Rattle.std.specs.Prelude.{IfOk};
 ghost use Rattle.loom_words.specs.Command.{HasLimits};
 ghost use Rattle.st80.specs.Ends.{IsLoomCode};
 
-use crate::running::{events_path, read_path};
+use crate::paths::{events_path, read_path};
 use crate::telling::end_of;
 use long_names::Name;
 use loom_words::Command;

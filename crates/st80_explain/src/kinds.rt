@@ -1,5 +1,6 @@
 //! What kind of file bytes are.
-ghost use Rattle.std.specs.Prelude.{◌≡◌};
+ghost use Rattle.std.specs.Prelude.{◌≡◌, ◌↔◌, [], codes, IsTrue};
+ghost use Rattle.st80_explain.specs.Kinds.{begins};
 ghost use Rattle.st80_explain.specs.Sentences.{kind_text};
 
 use std::alloc::AllocError;
@@ -30,7 +31,11 @@ pub enum Wanted {
 const LEAST_VAULT: usize = 4_096;
 
 /// What a file is, by how it begins.
-pub fn file_kind(bytes: &[u8]) -> FileKind {
+pub fn file_kind(bytes: &[u8]) -> FileKind
+    ensures empty { (result ≡ FileKind.Empty) ↔ (bytes.now ≡ []) }
+    ensures image { (result ≡ FileKind.Image) ↔ IsTrue (begins (codes "LOOM") bytes.now) }
+    ensures text { (result ≡ FileKind.Text) ↔ IsTrue (begins (codes "loom ") bytes.now) }
+{
     if bytes.is_empty() {
         return FileKind::Empty;
     }

@@ -1,6 +1,7 @@
 // A folder of the run's own in the temporary folder of the system.
-ghost use Rattle.std.specs.Prelude.{IfErr};
+ghost use Rattle.std.specs.Prelude.{◌≡◌, IfErr, IfOk, string_bytes};
 ghost use Rattle.st80_files.specs.Codes.{IsToldBy};
+ghost use Rattle.st80_files.specs.Inside.{file_in, folder_at};
 ghost use Rattle.st80_files.specs.declared.codes.Code.TheVariants as code;
 
 use crate::codes::Code;
@@ -78,7 +79,10 @@ impl Temporary {
     }
 
     /// The path of a file in it.
-    pub fn file(&self, rt: HostRuntime, name: &str) -> Result<String, AllocError> {
+    #[tactic(auto, unfolding(crate::specs::Inside::folder_at))]
+    pub fn file(&self, rt: HostRuntime, name: &str) -> Result<String, AllocError>
+        ensures { IfOk result (λ path. string_bytes path ≡ file_in (folder_at self.now) name.now) }
+    {
         let folder = self.path.as_str();
         format!(in rt.alloc(); "{folder}/{name}")
     }

@@ -1,6 +1,9 @@
 // The commands that look at images: `show`, `diff` and `check`.
-ghost use Rattle.std.specs.Prelude.{◌≡◌, ◌⊎◌, IfOk};
+ghost use Rattle.std.specs.Prelude.{◌≡◌, ◌⊎◌, List, IfOk, ℕ};
 ghost use Rattle.st80_files.specs.declared.codes.Code.TheVariants as code;
+ghost use Rattle.st80_looks.specs.Checked.{IsChecked, IsRead};
+ghost use Rattle.st80_objects.specs.Images.{IsImageOf};
+ghost use Rattle.st80_view.specs.Viewed.{image_of};
 
 use crate::explaining::{put_bad_image, put_bad_text};
 use image_format::Break;
@@ -35,7 +38,9 @@ fn broken_text(
 }
 
 /// The view of an image, by its bytes; `word` is what it is called.
-fn view_of(rt: HostRuntime, word: &str, bytes: &[u8]) -> Result<View, Failure> {
+fn view_of(rt: HostRuntime, word: &str, bytes: &[u8]) -> Result<View, Failure>
+    ensures { IfOk result (λ view. IsImageOf bytes.now (image_of view)) }
+{
     match View::open(rt.alloc(), bytes) {
         Ok(view) => Ok(view),
         Err(ImageFault::Memory) => Err(Failure::Memory),
@@ -56,7 +61,9 @@ fn labels_in(rt: HostRuntime, path: &str) -> Result<Labels, Failure> {
 }
 
 // Gives the objects of a view the names of a file: the one that was asked for, or the one beside the image where it is there.
-fn label(rt: HostRuntime, view: &mut View, word: &str, names: Option<&str>) -> Result<(), Failure> {
+fn label(rt: HostRuntime, view: &mut View, word: &str, names: Option<&str>) -> Result<(), Failure>
+    ensures { image_of view.new ≡ image_of view.old }
+{
     if let Some(path) = names {
         view.set_labels(labels_in(rt, path)?);
         return Ok(());
@@ -74,7 +81,9 @@ pub fn labelled(
     word: &str,
     bytes: &[u8],
     names: Option<&str>,
-) -> Result<View, Failure> {
+) -> Result<View, Failure>
+    ensures { IfOk result (λ view. IsImageOf bytes.now (image_of view)) }
+{
     let mut view = view_of(rt, word, bytes)?;
     label(rt, &mut view, word, names)?;
     Ok(view)
@@ -141,7 +150,8 @@ fn check_image(
     bytes: &[u8],
     names: Option<&str>,
 ) -> Result<Code, Failure>
-    ensures { IfOk result (λ end. (end ≡ code.Well) ⊎ (end ≡ code.ImageBad)) }
+    ensures end { IfOk result (λ end. (end ≡ code.Well) ⊎ (end ≡ code.ImageBad)) }
+    ensures read { IfOk result (λ end. IsRead bytes.now) }
 {
     let view = labelled(rt, word, bytes, names)?;
     let mut text = String::new(rt.alloc());
@@ -170,18 +180,32 @@ fn check_text(rt: HostRuntime, word: &str, bytes: &[u8]) -> Result<Code, Failure
     Ok(if is_bad { Code::TextBad } else { Code::Well })
 }
 
-/// The command `check`.
-pub fn check(rt: HostRuntime, word: &str, names: Option<&str>) -> Result<Code, Failure> {
-    let bytes = bytes_or_input(rt, word)?;
-    match file_kind(&bytes) {
-        FileKind::Image => check_image(rt, word, &bytes, names),
-        FileKind::Text => check_text(rt, word, &bytes),
+// What is wrong with these bytes, which are an image, a text, or neither.
+fn check_bytes(
+    rt: HostRuntime,
+    word: &str,
+    bytes: &[u8],
+    names: Option<&str>,
+) -> Result<Code, Failure>
+    ensures { IfOk result (IsChecked bytes.now) }
+{
+    match file_kind(bytes) {
+        FileKind::Image => check_image(rt, word, bytes, names),
+        FileKind::Text => check_text(rt, word, bytes),
         _ => {
             let mut text = format!(in rt.alloc();
                 "{word} is neither an image nor the text of one.\n"
             )?;
-            put_kind(&mut text, &bytes, Wanted::Image)?;
+            put_kind(&mut text, bytes, Wanted::Image)?;
             Err(failed(rt.alloc(), Code::CantRead, text.as_str()))
         }
     }
+}
+
+/// The command `check`. It ends well, or with the code of an image or of a text that breaks a rule, only where the file begins as one.
+pub fn check(rt: HostRuntime, word: &str, names: Option<&str>) -> Result<Code, Failure>
+    ensures { IfOk result (λ end. (bytes : List ℕ) × IsChecked bytes end) }
+{
+    let bytes = bytes_or_input(rt, word)?;
+    check_bytes(rt, word, &bytes, names)
 }

@@ -1,6 +1,11 @@
 // The `.names` file beside an image.
 // Each line is the number of an object, one space, and what it is called, to the line's end. Lines that are empty or begin with
 // `#` say nothing. Of two lines with one number the later counts.
+ghost use Rattle.std.specs.Prelude.{◌≡◌, decimal, option_copied, IfSome, IsTrue};
+ghost use Rattle.std.specs.Str.{bytes_eq};
+ghost use Rattle.st80_objects.specs.Labelled.{is_labelled, label_in};
+
+use itoa::Buffer;
 use long_names::Name;
 use std::alloc::{AllocError, Global};
 use std::collections::BTreeMap;
@@ -102,25 +107,45 @@ impl Labels {
     }
 
     /// What an object is called.
-    pub fn label(&self, name: Name) -> Option<&[u8]> {
+    #[tactic(auto, unfolding(crate::specs::Labelled::label_in))]
+    pub fn label(&self, name: Name) -> Option<&[u8]>
+        ensures { option_copied result ≡ label_in self.now name }
+    {
         match self.entries.get(&name.get()) {
             Some(label) => Some(label.as_slice()),
             None => None,
         }
     }
 
+    /// Whether an object is called so.
+    fn is_labelled(&self, name: Name, text: &[u8]) -> bool
+        ensures { result ≡ is_labelled self.now name text.now }
+    {
+        match self.label(name) {
+            Some(label) => label == text,
+            None => false,
+        }
+    }
+
     /// The object that is called so. Of several the one with the lowest number.
-    pub fn named(&self, text: &[u8]) -> Option<Name> {
-        for (number, label) in self.entries.iter() {
-            if label.as_slice() == text {
-                return Name::new(*number);
+    pub fn named(&self, text: &[u8]) -> Option<Name>
+        ensures { IfSome result (λ name. IsTrue (is_labelled self.now name text.now)) }
+    {
+        for (number, _) in self.entries.iter() {
+            if let Some(name) = Name::new(*number) {
+                if self.is_labelled(name, text) {
+                    return Some(name);
+                }
             }
         }
         None
     }
 }
 
-/// Whether a text is the number of a name, in decimal digits.
-pub fn is_number(name: Name, text: &[u8]) -> bool {
-    number_of(text) == Some(name.get())
+/// Whether a text is the number of a name, in decimal digits without a zero in front.
+pub fn is_number(name: Name, text: &[u8]) -> bool
+    ensures { result ≡ bytes_eq (decimal name) text.now }
+{
+    let mut buffer = Buffer::new();
+    buffer.format(name.get()).as_bytes() == text
 }

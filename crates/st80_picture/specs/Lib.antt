@@ -2,3 +2,4 @@ pub mod Sums
 pub mod Png
 pub mod Pictures
 pub mod Causes
+pub mod Refusals

@@ -10,8 +10,9 @@
 //! Read `specs/Sums.antt` first, then `specs/Png.antt`.
 //!
 //! - Proved: That the two sums are those of the standards bit by bit, and that a PNG is, byte for byte, signature, head, the rows in stored
-//!   blocks, and end.
-//! - Tested: What other programs read in such a PNG, the blocks, and what is refused as a PBM (`st80_tests`, `tests/`).
+//!   blocks, and end. A PBM is read as it is spelled, or refused for what is wrong with it (`specs/Refusals.antt`), and a larger picture has
+//!   each pixel as a square (`black_in` of `specs/Pictures.antt`).
+//! - Tested: What other programs read in such a PNG, and the blocks (`st80_tests`, `tests/`).
 //! - Not said: What is seen of a picture that is made smaller.
 #![tactic(auto)]
 

@@ -1,2 +1,5 @@
 pub mod Viewed
+pub mod Names
+pub mod Homes
+pub mod Stacks
 pub mod Findings

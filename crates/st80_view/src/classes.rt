@@ -1,5 +1,9 @@
 // Which objects are classes, and whose each method is.
-ghost use Rattle.std.specs.Prelude.{◌≡◌, IfSome};
+ghost use Rattle.std.specs.Prelude.{◌≡◌, ◌↔◌, IfSome, IsNone, IsTrue};
+ghost use Rattle.st80_view.specs.Homes.{IsOwn, IsUnder, homes_of};
+ghost use Rattle.st80_view.specs.declared.classes.MethodHome.{MethodHome};
+ghost use Rattle.st80_view.specs.Names.{superclass};
+ghost use Rattle.st80_view.specs.Viewed.{recs_of};
 
 use crate::view::View;
 use long_names::{Body, Name, Rec, Value, Values};
@@ -180,6 +184,25 @@ fn mark_not(objects: &Objects, marks: &mut Vec<bool>, name: Name) {
     }
 }
 
+fn is_own(home: &MethodHome, class: Name, selector: &Value) -> bool
+    ensures { IsTrue result ↔ IsUnder class selector.now home.now }
+{
+    home.class == class && home.selector == *selector
+}
+
+/// The first of these that a class has under a selector.
+fn own_of(homes: &[MethodHome], class: Name, selector: &Value) -> Option<MethodHome>
+    ensures home { IfSome result (IsOwn homes.now class selector.now) }
+    ensures none { IsNone result → (home : MethodHome) → IsOwn homes.now class selector.now home → ⊥ }
+{
+    for home in homes {
+        if is_own(home, class, selector) {
+            return Some(*home);
+        }
+    }
+    None
+}
+
 impl View {
     /// Whether an object is a class: known as one, the class of an object or the superclass of a class, or of the shape of one: a superclass or nil, a method dictionary, an instance specification. nil is none.
     pub fn is_class(&self, name: Name) -> bool {
@@ -190,13 +213,19 @@ impl View {
     }
 
     /// The superclass of a class, unless it is nil.
-    pub fn superclass(&self, class: Name) -> Option<Name> {
+    #[tactic(auto, unfolding(crate::specs::Viewed::image_of))]
+    pub fn superclass(&self, class: Name) -> Option<Name>
+        ensures { result ≡ superclass (recs_of self.now) class }
+    {
         let name = self.image.name_in(class, SUPERCLASS)?;
         if name == Name::NIL { None } else { Some(name) }
     }
 
     /// The methods of all classes, by rising name of the method.
-    pub fn methods(&self) -> &[MethodHome] {
+    #[tactic(auto, unfolding(crate::specs::Homes::homes_of))]
+    pub fn methods(&self) -> &[MethodHome]
+        ensures { result.now ≡ homes_of self.now }
+    {
         &self.methods
     }
 
@@ -215,14 +244,10 @@ impl View {
 
     /// The method that a class has in its own dictionary under a selector.
     pub fn own_method(&self, class: Name, selector: Value) -> Option<MethodHome>
-        ensures { IfSome result (λ home. (home.class ≡ class) × (home.selector ≡ selector)) }
+        ensures home { IfSome result (IsOwn (homes_of self.now) class selector) }
+        ensures none { IsNone result → (home : MethodHome) → IsOwn (homes_of self.now) class selector home → ⊥ }
     {
-        for home in self.methods.iter() {
-            if home.class == class && home.selector == selector {
-                return Some(*home);
-            }
-        }
-        None
+        own_of(self.methods(), class, &selector)
     }
 
     /// The method that a lookup from a class on finds under a selector whose text is this, or of this number.

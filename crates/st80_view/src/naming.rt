@@ -1,6 +1,7 @@
 // What objects are called.
-ghost use Rattle.std.specs.Prelude.{is_some, IfSome, IsTrue};
+ghost use Rattle.std.specs.Prelude.{◌≡◌, is_some, option_copied, IfSome, IsTrue, Some};
 ghost use Rattle.image_format.specs.Rules.{rec_in};
+ghost use Rattle.st80_view.specs.Names.{first_called, is_class_called, is_metaclass_text, is_text, known_class_name, own_class_name, this_class};
 ghost use Rattle.st80_view.specs.Viewed.{recs_of};
 
 use crate::classes::CLASS_NAME;
@@ -13,7 +14,9 @@ use std::alloc::AllocError;
 const LONGEST_TEXT: usize = 60;
 
 /// The class that the machine knows by a name.
-fn known_class(name: Name) -> Option<&'static str> {
+fn known_class(name: Name) -> Option<&'static str>
+    ensures { option_copied result ≡ known_class_name name }
+{
     match name.get() {
         12 => Some("SmallInteger"),
         14 => Some("String"),
@@ -80,12 +83,18 @@ fn put_text(out: &mut String, octets: &Octets) -> Result<(), AllocError> {
 
 impl View {
     /// The name that a class has in its field 6, where that is a text.
-    pub fn own_class_name(&self, class: Name) -> Option<&Octets> {
+    #[tactic(auto, unfolding(crate::specs::Viewed::image_of))]
+    pub fn own_class_name(&self, class: Name) -> Option<&Octets>
+        ensures { option_copied result ≡ own_class_name (recs_of self.now) class }
+    {
         self.image.text(self.image.name_in(class, CLASS_NAME)?)
     }
 
     /// The class whose metaclass an object is: its field 6, where that is a class with a name.
-    pub fn this_class(&self, class: Name) -> Option<Name> {
+    #[tactic(auto, unfolding(crate::specs::Viewed::image_of))]
+    pub fn this_class(&self, class: Name) -> Option<Name>
+        ensures { result ≡ this_class (recs_of self.now) class }
+    {
         let this = self.image.name_in(class, CLASS_NAME)?;
         self.own_class_name(this)?;
         Some(this)
@@ -171,11 +180,42 @@ impl View {
     }
 
     /// The class that is called so: by its name, as `X class`, by the machine's name, or by its number, the lowest of several; otherwise by a label. It is an object of the image.
-    #[tactic(auto, unfolding(crate::specs::Viewed::image_of))]
     pub fn find_class(&self, text: &[u8]) -> Option<Name>
+        ensures there { IfSome result (λ name. IsTrue (is_some (rec_in (recs_of self.now) name))) }
+        ensures called { IfSome (first_called (recs_of self.now) text.now (recs_of self.now)) (λ name. result ≡ Some name) }
+    {
+        match self.class_called(text) {
+            Some(name) => Some(name),
+            None => self.class_labelled(text),
+        }
+    }
+
+    /// The first object that is called so as a class.
+    fn class_called(&self, text: &[u8]) -> Option<Name>
+        ensures there { IfSome result (λ name. IsTrue (is_some (rec_in (recs_of self.now) name))) }
+        ensures first { result ≡ first_called (recs_of self.now) text.now (recs_of self.now) }
+    {
+        self.first_called(self.image().objects.all(), text)
+    }
+
+    /// The first of these objects that is called so.
+    fn first_called(&self, recs: &[Rec], text: &[u8]) -> Option<Name>
+        ensures { result ≡ first_called (recs_of self.now) text.now recs.now }
+    {
+        for rec in recs {
+            if self.is_class_named(rec.name, text) {
+                return Some(rec.name);
+            }
+        }
+        None
+    }
+
+    /// The object that has this label.
+    #[tactic(auto, unfolding(crate::specs::Viewed::image_of))]
+    fn class_labelled(&self, text: &[u8]) -> Option<Name>
         ensures { IfSome result (λ name. IsTrue (is_some (rec_in (recs_of self.now) name))) }
     {
-        let name = self.class_called(text)?;
+        let name = self.labels.named(text)?;
         if self.image.is_there(name) {
             Some(name)
         } else {
@@ -183,16 +223,9 @@ impl View {
         }
     }
 
-    fn class_called(&self, text: &[u8]) -> Option<Name> {
-        for rec in self.image.objects.all() {
-            if self.is_class_named(rec.name, text) {
-                return Some(rec.name);
-            }
-        }
-        self.labels.named(text)
-    }
-
-    fn is_class_named(&self, class: Name, text: &[u8]) -> bool {
+    fn is_class_named(&self, class: Name, text: &[u8]) -> bool
+        ensures { result ≡ is_class_called (recs_of self.now) class text.now }
+    {
         if is_number(class, text) {
             return true;
         }
@@ -200,10 +233,7 @@ impl View {
             return own.bytes() == text;
         }
         if let Some(this) = self.this_class(class) {
-            return match text.strip_suffix(b" class") {
-                Some(front) => self.has_own_name(this, front),
-                None => false,
-            };
+            return self.is_metaclass_named(this, text);
         }
         match known_class(class) {
             Some(word) => word.as_bytes() == text,
@@ -211,7 +241,19 @@ impl View {
         }
     }
 
-    fn has_own_name(&self, class: Name, text: &[u8]) -> bool {
+    /// Whether a text is the name of a class and ` class`.
+    fn is_metaclass_named(&self, this: Name, text: &[u8]) -> bool
+        ensures { result ≡ is_metaclass_text (recs_of self.now) this text.now }
+    {
+        match text.strip_suffix(b" class") {
+            Some(front) => self.has_own_name(this, front),
+            None => false,
+        }
+    }
+
+    fn has_own_name(&self, class: Name, text: &[u8]) -> bool
+        ensures { result ≡ is_text (own_class_name (recs_of self.now) class) text.now }
+    {
         match self.own_class_name(class) {
             Some(own) => own.bytes() == text,
             None => false,

@@ -1,5 +1,8 @@
 // Processes, and the contexts of their stacks.
-ghost use Rattle.std.specs.Prelude.{◌≡◌};
+ghost use Rattle.std.specs.Prelude.{◌≡◌, ◌+◌, ◌<◌, ◌^◌, is_some, option_and_then, option_map, IfSome};
+ghost use Rattle.st80_objects.specs.Images.{field_in, name_at_field, number_at_field};
+ghost use Rattle.st80_view.specs.Names.{not_nil};
+ghost use Rattle.st80_view.specs.Stacks.{IsFrameOf, home_of, running_in};
 ghost use Rattle.st80_view.specs.Viewed.{active_context, active_process, recs_of, scheduler};
 
 use crate::view::View;
@@ -255,18 +258,17 @@ impl View {
     }
 
     /// What a context is. None where it isn't one that could be loaded.
-    pub fn frame(&self, context: Name) -> Option<Frame> {
-        let is_block = self.image.number_in(context, METHOD).is_some();
-        let home = if is_block {
-            self.image.name_in(context, HOME)?
-        } else {
-            context
-        };
+    #[tactic(auto, unfolding(crate::specs::Viewed::image_of))]
+    pub fn frame(&self, context: Name) -> Option<Frame>
+        ensures running { option_map (λ frame. (frame.home, frame.method, frame.receiver)) result ≡ running_in (recs_of self.now) context }
+        ensures frame { IfSome result (IsFrameOf (recs_of self.now) context) }
+    {
+        let home = self.home_of(context)?;
         let method = self.image.name_in(home, METHOD)?;
         let receiver = self.image.field(home, RECEIVER)?;
         Some(Frame {
             context,
-            is_block,
+            is_block: self.is_block(context),
             home,
             method,
             receiver,
@@ -276,6 +278,25 @@ impl View {
         })
     }
 
+    #[tactic(auto, unfolding(crate::specs::Viewed::image_of))]
+    fn is_block(&self, context: Name) -> bool
+        ensures { result ≡ is_some (number_at_field (recs_of self.now) context METHOD) }
+    {
+        self.image.number_in(context, METHOD).is_some()
+    }
+
+    /// The context itself, or the one that a block was made in.
+    #[tactic(auto, unfolding(crate::specs::Viewed::image_of))]
+    fn home_of(&self, context: Name) -> Option<Name>
+        ensures { result ≡ home_of (recs_of self.now) context }
+    {
+        if self.is_block(context) {
+            self.image.name_in(context, HOME)
+        } else {
+            Some(context)
+        }
+    }
+
     /// The next byte of a context, whose field counts from 1.
     fn pointer_of(&self, context: Name) -> Option<i16> {
         self.image
@@ -283,7 +304,10 @@ impl View {
             .checked_sub(1)
     }
 
-    fn sender_of(&self, context: Name) -> Option<Name> {
+    #[tactic(auto, unfolding(crate::specs::Viewed::image_of))]
+    fn sender_of(&self, context: Name) -> Option<Name>
+        ensures { result ≡ option_and_then not_nil (name_at_field (recs_of self.now) context SENDER) }
+    {
         not_nil(self.image.name_in(context, SENDER)?)
     }
 
@@ -318,13 +342,19 @@ impl View {
     }
 
     /// Temporary i of a frame's home.
-    pub fn temporary(&self, frame: &Frame, i: usize) -> Option<Value> {
+    #[tactic(auto, unfolding(crate::specs::Viewed::image_of))]
+    pub fn temporary(&self, frame: &Frame, i: usize) -> Option<Value>
+        ensures { i < 2 ^ 32 → result ≡ field_in (recs_of self.now) frame.now.home (i + FIRST_TEMPORARY) }
+    {
         self.image
             .field(frame.home, i.saturating_add(FIRST_TEMPORARY))
     }
 
     /// The value at a place of a frame's stack, counted from 0 at its bottom, temporaries of a method among them.
-    pub fn stacked(&self, frame: &Frame, i: usize) -> Option<Value> {
+    #[tactic(auto, unfolding(crate::specs::Viewed::image_of))]
+    pub fn stacked(&self, frame: &Frame, i: usize) -> Option<Value>
+        ensures { i < 2 ^ 32 → result ≡ field_in (recs_of self.now) frame.now.context (i + FIRST_TEMPORARY) }
+    {
         self.image
             .field(frame.context, i.saturating_add(FIRST_TEMPORARY))
     }
@@ -359,7 +389,9 @@ fn name_or_nil(value: Option<Value>) -> Name {
     }
 }
 
-fn not_nil(name: Name) -> Option<Name> {
+fn not_nil(name: Name) -> Option<Name>
+    ensures { result ≡ not_nil name }
+{
     if name == Name::NIL { None } else { Some(name) }
 }
 
