@@ -1,5 +1,5 @@
 -- Chunks of a source file: what stands up to a mark that isn't doubled, with each doubled mark as one.
-use Rattle.std.specs.Prelude.{◌≡◌, ◌≢◌, ℕ, ◌+◌, ◌||◌, ◌&&◌, ◌==◌, nat_le, Bool, List, [], ◌∷◌, ◌++◌, length, map, take, slice_get, slice_index, Some, if◌then◌else◌}
+use Rattle.std.specs.Prelude.{◌≡◌, ◌≢◌, ℕ, ◌+◌, ◌||◌, ◌&&◌, ◌==◌, nat_le, Bool, List, [], ◌∷◌, ◌++◌, map, take, slice_get, slice_index, Some, if◌then◌else◌}
 use Rattle.st80_source.specs.declared.chunks.TheConstants.{MARK}
 use Rattle.st80_source.specs.declared.chunks.Chunk.{Chunk}
 
@@ -27,6 +27,10 @@ pub record IsChunk (text : List ℕ) (from : ℕ) (chunk : Chunk) : Type 0 where
   pub text_is : take at text ≡ take from text ++ doubled chunk.bytes.items
   -- each byte stands at its place
   pub places : map (slice_index text) chunk.places.items ≡ chunk.bytes.items
+
+-- no chunk begins at a place: no mark stands alone behind what is read from there on
+abbrev pub HasNoChunk : List ℕ → ℕ → Type 0
+HasNoChunk text from = (chunk : Chunk) → IsChunk text from chunk → ⊥
 
 -- a space, or one of tab, newline, vertical tab, form feed and return
 abbrev pub is_blank_byte : ℕ → Bool

@@ -1,7 +1,7 @@
 // A chunk is what stands up to the first mark that isn't doubled, with each doubled mark as one.
 ghost use Rattle.std.specs.Prelude.{◌≡◌, ◌<◌, ◌≤◌, ◌+◌, ◌++◌, IfOk, IfSome, IfNone, length, slice_index, slice_get, take};
 ghost use Rattle.std.specs.List.{list_all};
-ghost use Rattle.st80_source.specs.Chunks.{IsChunk, IsLone, is_blank_byte, written};
+ghost use Rattle.st80_source.specs.Chunks.{HasNoChunk, IsChunk, IsLone, is_blank_byte, written};
 
 use std::alloc::{AllocError, Global};
 
@@ -36,7 +36,8 @@ fn width_at(text: &[u8], at: usize) -> Option<usize>
 
 /// The chunk that begins at a place. None where no mark stands alone from there on.
 pub fn chunk_at(alloc: Global, text: &[u8], from: usize) -> Result<Option<Chunk>, AllocError>
-    ensures { IfOk result (λ found. IfSome found (λ chunk. IsChunk text.now from chunk)) }
+    ensures chunk { IfOk result (λ found. IfSome found (λ chunk. IsChunk text.now from chunk)) }
+    ensures none { IfOk result (λ found. IfNone found (HasNoChunk text.now from)) }
 {
     let mut bytes = Vec::new(alloc);
     let mut places = Vec::new(alloc);

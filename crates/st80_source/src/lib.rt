@@ -11,7 +11,8 @@
 //! Each byte of a chunk keeps the place at which it stands in the file, and `line_of` and `column_of` say what people call that place. Read
 //! `specs/Chunks.antt`.
 //!
-//! - Proved: What a chunk is: its bytes with each `!` doubled are what stands there, and each of its bytes stands at its place. Lines and columns.
+//! - Proved: What a chunk is: its bytes with each `!` doubled are what stands there, and each of its bytes stands at its place; where none is
+//!   answered there is none. Lines and columns.
 //! - Tested: Nothing by itself.
 //! - Not said: That out of memory has a cause.
 #![tactic(auto)]
