@@ -9,12 +9,13 @@
 #     stops     runs that an error stops, and the machine as it was before
 #     looks     what is shown of images, texts and runs, and pictures
 #     traces    the lines of a trace beside those of `loom trace`
+#     progress  what a terminal shows of a run that takes more than a second
 set -u
 top=$(cd "$(dirname "$0")/.." && pwd) || exit 1
 st80=${1:-$top/crates/st80/out/st80}
 [ -x "$st80" ] || { echo "desk: there is no program $st80; ./demo builds it" >&2; exit 1; }
 [ $# -gt 0 ] && shift
-[ $# -gt 0 ] || set -- mistakes runs stops looks traces
+[ $# -gt 0 ] || set -- mistakes runs stops looks traces progress
 lines=$(mktemp) || exit 1
 trap 'rm -f "$lines"' EXIT
 
