@@ -291,6 +291,10 @@ impl ObjectMemory for BoundedMemory {
         self.memory.hash(r)
     }
 
+    fn next_name(&self) -> u32 {
+        self.memory.next_name()
+    }
+
     fn is_pinned(&self, r: Reg) -> bool {
         self.memory.is_pinned(r)
     }

@@ -113,6 +113,10 @@ impl<M: ObjectMemory> ObjectMemory for LoggedMemory<M> {
         self.inner.hash(r)
     }
 
+    fn next_name(&self) -> u32 {
+        self.inner.next_name()
+    }
+
     fn is_pinned(&self, r: Reg) -> bool {
         self.inner.is_pinned(r)
     }

@@ -54,6 +54,11 @@ impl<'h, H: Host> ObjectMemory for LoomMemory<'h, H> {
     }
 
     #[inline(always)]
+    fn next_name(&self) -> u32 {
+        LoomMemory::next_name(self)
+    }
+
+    #[inline(always)]
     fn is_pinned(&self, r: Reg) -> bool {
         LoomMemory::is_pinned(self, r)
     }

@@ -195,6 +195,14 @@ impl<'h, H: Host> LoomMemory<'h, H> {
         name.index()
     }
 
+    /// The name that the next new object takes. From 4,294,967,294 on there is none for it.
+    pub fn next_name(&self) -> u32
+        requires { IsSound H.Host self.now }
+        ensures { IsTrue (H.tells Role.Work) → result ≡ (loom_told H.Host self.now).heap.next }
+    {
+        self.ledger.next
+    }
+
     /// Whether a slot has the name in the register.
     pub fn is_pinned(&self, r: Reg) -> bool
         requires sound { IsSound H.Host self.now }

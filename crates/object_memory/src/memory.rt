@@ -79,6 +79,11 @@ pub trait ObjectMemory {
         requires name { IsRef ((told self.now).regs r) }
         ensures { result ≡ name_at ((told self.now).regs r) / 2 };
 
+    /// The name that the next new object takes. From 4,294,967,294 on there is none for it.
+    fn next_name(&self) -> u32
+        requires { sound self.now }
+        ensures { IsTrue (told self.now).tells → result ≡ (told self.now).heap.next };
+
     /// Whether a slot has the name in the register.
     fn is_pinned(&self, r: Reg) -> bool
         requires sound { sound self.now }

@@ -239,6 +239,10 @@ impl ObjectMemory for PlainMemory {
         self.registers.name(r).index()
     }
 
+    fn next_name(&self) -> u32 {
+        self.objects.next()
+    }
+
     fn is_pinned(&self, r: Reg) -> bool {
         self.slots.has(self.registers.name(r))
     }
