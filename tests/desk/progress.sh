@@ -29,23 +29,25 @@ shows_no() {
     tell "$1" "$why"
 }
 
-# lasting COMMAND WORDS LEAST: sets `many` to so many bytecodes that COMMAND with --steps and WORDS takes three seconds here, from LEAST on.
+# lasting WORDS LEAST: sets `many` to so many bytecodes that the command of WORDS, where @ stands for them, takes three seconds here, from LEAST
+# on, and `long` to that command.
 lasting() {
-    many=$3
+    many=$2
     while :; do
+        long=$(echo "$1" | sed "s/@/$many/g")
         began=$(date +%s%N)
-        "$st80" $1 --steps "$many" $2 >/dev/null 2>&1 </dev/null
+        "$st80" $long >/dev/null 2>&1 </dev/null
         millis=$((($(date +%s%N) - began) / 1000000))
         [ $millis -lt 3000 ] && [ "$many" -lt 1000000000 ] || return
         many=$((many * 2))
     done
 }
 
-line='^[0-9]* bytecodes, [0-9]* a second, [0-9]* left on the clock$'
+line='^[0-9]* bytecodes, [0-9]*/s, [0-9]* names and [0-9]* ticks left$'
 
 # A run that says nothing and doesn't end.
-lasting 'run tour.loom' --no-save 2000000
-on_terminal "run tour.loom --steps $many --no-save"
+lasting 'run tour.loom --steps @ --no-save' 2000000
+on_terminal "$long"
 shows 'a long run tells how far it is'     "$line"
 shows 'its last line stands alone'         "^ran $many$"
 lines=$(grep -c "$line" shown)
@@ -53,27 +55,40 @@ why=
 [ "$lines" -ge 1 ] && [ "$lines" -le $((millis / 250 + 4)) ] || why="; $lines lines in $millis milliseconds"
 tell 'once a second, more or less'         "$why"
 told=$(grep "$line" shown | head -n 1)
-left=${told#*second, }
+left=${told#*/s, }
+names=${left%% *}
+ticks=${left#*and }
 why=
-[ $((${told%% *} + ${left%% *})) = 4294967295 ] || why="; $told"
+[ $((${told%% *} + ${ticks%% *})) = 4294967295 ] || why="; $told"
 tell 'what was run and what is left are the whole clock' "$why"
-on_terminal "run tour.loom --steps $many --no-save >out"
+# At most one object is made by a bytecode of this loop.
+next=$("$st80" list tour.loom - 2>/dev/null | head -n 1 | cut -d ' ' -f 2)
+spent=$(((4294967294 - ${next:-0}) / 2 - names))
+why=
+[ $spent -gt 0 ] && [ $spent -lt "${told%% *}" ] || why="; $told, and the next name was $next"
+tell 'names are left, but for those that the run spent' "$why"
+on_terminal "$long >out"
 shows 'also where standard output is a file' "$line"
 why=
-grep -q 'a second' out && why='; it is there'
+grep -q 'ticks left' out && why='; it is there'
 tell 'and that file has nothing of it'     "$why"
-on_terminal "run tour.loom --steps $many --no-save 2>notes"
-shows_no 'not where standard error is a file' 'a second'
+on_terminal "$long 2>notes"
+shows_no 'not where standard error is a file' 'ticks left'
 why=
-grep -q 'a second' notes && why='; it is there'
+grep -q 'ticks left' notes && why='; it is there'
 tell 'and that file has nothing of it, either' "$why"
 on_terminal 'run tour.loom --steps 1000 --no-save'
-shows_no 'a short run tells nothing'       'a second'
+shows_no 'a short run tells nothing'       'ticks left'
+
+# A trace of one line.
+lasting 'trace tour.loom --from @ --to @' 200000
+on_terminal "$long"
+shows 'a long trace tells it, too'         "$line"
 
 # A run that says a number behind each checkpoint.
-lasting 'guard counter.loom long.vault' --no-save 10000
-"$st80" guard counter.loom long.vault --steps "$many" --no-save >wanted 2>/dev/null </dev/null
-on_terminal "guard counter.loom long.vault --steps $many --no-save"
+lasting 'guard counter.loom long.vault --steps @ --no-save' 10000
+"$st80" $long >wanted 2>/dev/null </dev/null
+on_terminal "$long"
 shows 'a guarded run tells it, or what was kept' "$line\\|^kept [0-9]* bytes$"
 grep '^0' shown >said
 same 'what the machine says stands in lines of its own, and all of it' said wanted

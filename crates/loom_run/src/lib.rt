@@ -44,6 +44,8 @@ mod tracing;
 mod writing;
 
 pub use loom_words::Status;
-pub use machine_run::{Finished, Halted, NoObserver, Observer, Reason, State, run, whole_run};
+pub use machine_run::{
+    Finished, Halted, NoObserver, Observer, Progress, Reason, State, run, whole_run,
+};
 pub use program::{loom, loom_observed};
 pub use tracing::{TraceStop, trace};

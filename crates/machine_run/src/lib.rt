@@ -13,7 +13,8 @@
 //! Whoever puts a run together of its parts has `begin`, `run`, `draw` and `state_of`, and `park` of contexts.
 //!
 //! `run_observed` and `whole_run_observed` are the same with an `Observer`, who is told every 65,536 bytecodes how many were run; `run` and
-//! `whole_run` are these with nobody. An observer is handed two numbers, and no memory.
+//! `whole_run` are these with nobody. An observer is handed three numbers, and no memory; `tell` is for whoever
+//! runs cycle by cycle.
 //!
 //! `traced_cycle` does one cycle of a run that is traced: it also tells the active context, the instruction pointer and the byte there, as the
 //! machine came to its bytecode (`specs/Sights.antt`).
@@ -35,7 +36,7 @@ mod tracing;
 
 pub use blue_model::Step;
 pub use image_format::State;
-pub use observer::{NoObserver, Observer};
+pub use observer::{NoObserver, Observer, Progress, tell};
 pub use running::{
     Finished, Halted, Reason, draw, is_last, run, run_observed, settle, whole_run,
     whole_run_observed,

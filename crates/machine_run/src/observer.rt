@@ -1,11 +1,23 @@
 //! Who follows a run from outside.
 use contexts::Cpu;
 use devices::clock;
+use object_memory::ObjectMemory;
+
+/// How far a run is.
+#[derive(Clone, Copy, Debug)]
+pub struct Progress {
+    /// How many bytecodes were run, in all legs.
+    pub ran: u32,
+    /// The machine's clock.
+    pub clock: u32,
+    /// The name that the next new object takes.
+    pub next_name: u32,
+}
 
 /// Who is told of a run while it goes on. It can change nothing of the run.
 pub trait Observer {
-    /// So many bytecodes were run, in all legs, and this is the machine's clock.
-    fn observe(&mut self, ran: u32, clock: u32);
+    /// The run is so far.
+    fn observe(&mut self, progress: Progress);
 }
 
 /// Nobody: each call is nothing.
@@ -14,7 +26,7 @@ pub struct NoObserver;
 
 impl Observer for NoObserver {
     #[inline(always)]
-    fn observe(&mut self, _ran: u32, _clock: u32) {}
+    fn observe(&mut self, _progress: Progress) {}
 }
 
 /// After how many bytecodes an observer is told each time.
@@ -22,8 +34,14 @@ const OBSERVED: u32 = 65_536;
 
 /// Tells an observer where so many bytecodes were run once more.
 #[inline(always)]
-pub(crate) fn tell<O: Observer>(observer: &mut O, cpu: &Cpu) {
+pub fn tell<M: ObjectMemory, O: Observer>(observer: &mut O, m: &M, cpu: &Cpu)
+    requires { M.sound m.now }
+{
     if cpu.ran % OBSERVED == 0 {
-        observer.observe(cpu.ran, clock(cpu));
+        observer.observe(Progress {
+            ran: cpu.ran,
+            clock: clock(cpu),
+            next_name: m.next_name(),
+        });
     }
 }

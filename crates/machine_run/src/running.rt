@@ -182,7 +182,7 @@ pub fn run_observed<M: ObjectMemory, O: Observer>(
         if is_last(step) {
             return Ok(step);
         }
-        tell(observer, cpu);
+        tell(observer, m, cpu);
     }
     Ok(Step::Next)
 }

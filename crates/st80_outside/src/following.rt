@@ -1,6 +1,7 @@
 // Shows how many bytecodes of a run were run.
 use crate::progress::Screen;
-use machine_run::Observer;
+use long_names::LAST_NAME;
+use machine_run::{Observer, Progress};
 use std::alloc::AllocError;
 use std::time::{Duration, Instant};
 
@@ -17,25 +18,32 @@ impl<'s> Following<'s> {
         Following { screen, last: None }
     }
 
-    fn show(&mut self, ran: u32, clock: u32) -> Result<(), AllocError> {
+    fn show(&mut self, progress: Progress) -> Result<(), AllocError> {
         let screen = self.screen;
         let Some(now) = screen.now() else {
             return Ok(());
         };
         let Some((since, before)) = self.last else {
-            self.last = Some((now, ran));
+            self.last = Some((now, progress.ran));
             return Ok(());
         };
         if screen.is_due(now) {
+            let ran = progress.ran;
             let rate = rate(ran.saturating_sub(before), now.duration_since(since));
-            let left = u32::MAX - clock;
+            let names = names_left(progress.next_name);
+            let ticks = u32::MAX - progress.clock;
             screen.put(&format!(in screen.alloc();
-                "{ran} bytecodes, {rate} a second, {left} left on the clock"
+                "{ran} bytecodes, {rate}/s, {names} names and {ticks} ticks left"
             )?);
             self.last = Some((now, ran));
         }
         Ok(())
     }
+}
+
+// How many objects can be made yet: names are even, and the last is LAST_NAME - 2.
+fn names_left(next: u32) -> u32 {
+    LAST_NAME.saturating_sub(next) / 2
 }
 
 // How many in a second, where there were so many in this time.
@@ -49,7 +57,7 @@ fn rate(count: u32, passed: Duration) -> u64 {
 
 impl Observer for Following<'_> {
     // Where there is no memory for a line, none comes.
-    fn observe(&mut self, ran: u32, clock: u32) {
-        let _ = self.show(ran, clock);
+    fn observe(&mut self, progress: Progress) {
+        let _ = self.show(progress);
     }
 }

@@ -1,12 +1,15 @@
 // The trace of a run, over the files of the process.
 ghost use Rattle.loom_words.specs.Command.{HasLimits};
 
+use crate::following::Following;
+use crate::progress::{Said, Screen};
+use crate::watched::Watched;
 use long_names::Name;
 use loom_outside::{RealHost, Role};
 use loom_words::{Command, Status};
 use st80_trace::{Options, trace};
 use st80_view::View;
-use std::io;
+use std::io::{self, IsTerminal};
 use work_windows::Windowed;
 
 /// Which bytecodes of a trace have a line.
@@ -31,7 +34,7 @@ fn options_of(lines: &Lines) -> Options {
 }
 
 /// Traces the run that a command asks for. The lines go to standard output, and so does what the machine says. `view` is the view of its image,
-/// for names. The error is one of standard output.
+/// for names. Where standard error is a terminal, it shows how far that is. The error is one of standard output.
 pub fn trace_run(
     rt: HostRuntime,
     command: &Command<'_>,
@@ -40,11 +43,26 @@ pub fn trace_run(
 ) -> io::Result<Status>
     requires limits { HasLimits command.now }
 {
-    let mut host = RealHost::new(rt, rt.stdout(), rt.stderr());
+    let screen = &Screen::new(rt);
+    let shows = rt.stdout().is_terminal();
+    let said = Said::new(rt.stdout(), screen, shows);
+    let notes = Said::new(rt.stderr(), screen, rt.stderr().is_terminal());
+    let mut host = RealHost::new(rt, said, notes);
     host.expect(Role::Image, command.image);
     host.expect(Role::Events, command.events);
-    let mut host = Windowed::new(rt.alloc(), host);
-    let mut out = rt.stdout();
+    let mut host = Windowed::new(rt.alloc(), Watched::new(host, screen));
+    let mut out = Said::new(rt.stdout(), screen, shows);
+    let mut following = Following::new(screen);
     let options = options_of(lines);
-    trace(rt.alloc(), &mut host, command, view, &options, &mut out)
+    let status = trace(
+        rt.alloc(),
+        &mut host,
+        command,
+        view,
+        &options,
+        &mut out,
+        &mut following,
+    );
+    screen.clear();
+    status
 }

@@ -3,7 +3,7 @@
 //! ```text
 //! let mut options = Options::all();
 //! options.sends = true;                                   // sends and returns alone
-//! let status = trace(alloc, &mut host, &command, &view, &options, &mut out)?;
+//! let status = trace(alloc, &mut host, &command, &view, &options, &mut out, &mut NoObserver)?;
 //!
 //!        1  Object>>doIt                    6  push 3                                     3
 //!        2  Object>>doIt                    7  send #factorial, no arguments              3

@@ -22,7 +22,7 @@ use loom_memory::{CoreTables, LoomMemory};
 use loom_run::steps::{read_all, status_of};
 use loom_run::{Halted, Reason};
 use loom_words::{Command, Status};
-use machine_run::{Step, begin, is_last};
+use machine_run::{Observer, Step, begin, is_last, tell};
 use object_memory::ObjectMemory;
 use st80_view::View;
 use std::alloc::Global;
@@ -30,14 +30,16 @@ use std::io;
 use std::io::Write;
 
 /// Traces the run that a command asks for. Work, Image and Events are attached and read; Saved and Display aren't. The machine starts, and runs
-/// so many bytecodes or until one ends it; the lines go to `out`, and what it says to Transcript. It isn't parked. The error is one of `out`.
-pub fn trace<H: Host, W: Write>(
+/// so many bytecodes or until one ends it; the lines go to `out`, and what it says to Transcript. The observer is told at every 65,536th bytecode.
+/// It isn't parked. The error is one of `out`.
+pub fn trace<H: Host, W: Write, O: Observer>(
     alloc: Global,
     host: &mut H,
     command: &Command<'_>,
     view: &View,
     options: &Options,
     out: &mut W,
+    observer: &mut O,
 ) -> io::Result<Status>
     requires limits { HasLimits command.now }
 {
@@ -53,6 +55,7 @@ pub fn trace<H: Host, W: Write>(
                 command,
                 following,
                 out,
+                observer,
             )
         }
         Err(status) => Ok(status),
@@ -60,7 +63,7 @@ pub fn trace<H: Host, W: Write>(
 }
 
 /// The memory is made, and the machine runs.
-fn trace_under<H: Host, W: Write>(
+fn trace_under<H: Host, W: Write, O: Observer>(
     alloc: Global,
     host: &mut H,
     rest: DiskRest,
@@ -69,6 +72,7 @@ fn trace_under<H: Host, W: Write>(
     command: &Command<'_>,
     following: Following<'_>,
     out: &mut W,
+    observer: &mut O,
 ) -> io::Result<Status>
     requires limits { HasLimits command.now }
     requires image { HasImage H.Host host.old rest loaded.now }
@@ -86,6 +90,7 @@ fn trace_under<H: Host, W: Write>(
         command.steps,
         following,
         out,
+        observer,
     );
     let disk = memory.into_disk();
     let _host = disk.into_host();
@@ -93,7 +98,7 @@ fn trace_under<H: Host, W: Write>(
 }
 
 /// Starts with the state, and runs so many bytecodes.
-fn trace_machine<H: Host, W: Write>(
+fn trace_machine<H: Host, W: Write, O: Observer>(
     alloc: Global,
     memory: &mut LoomMemory<'_, H>,
     events: &EventList,
@@ -101,6 +106,7 @@ fn trace_machine<H: Host, W: Write>(
     steps: u32,
     following: Following<'_>,
     out: &mut W,
+    observer: &mut O,
 ) -> io::Result<Status>
     requires sound { IsSound H.Host memory.old }
     requires ready { IsReady (loom_told H.Host memory.old) }
@@ -110,11 +116,13 @@ fn trace_machine<H: Host, W: Write>(
     if let Err(stop) = begin(memory, &mut cpu, state) {
         return Ok(stopped(stop, cpu.ran));
     }
-    follow(alloc, memory, &mut cpu, events, steps, following, out)
+    follow(
+        alloc, memory, &mut cpu, events, steps, following, out, observer,
+    )
 }
 
 /// Runs so many bytecodes, and writes the line of each that has one.
-fn follow<M: ObjectMemory, W: Write>(
+fn follow<M: ObjectMemory, W: Write, O: Observer>(
     alloc: Global,
     m: &mut M,
     cpu: &mut Cpu,
@@ -122,6 +130,7 @@ fn follow<M: ObjectMemory, W: Write>(
     steps: u32,
     mut following: Following<'_>,
     out: &mut W,
+    observer: &mut O,
 ) -> io::Result<Status>
     requires fit { IsFit M.ObjectMemory m.old }
 {
@@ -133,6 +142,7 @@ fn follow<M: ObjectMemory, W: Write>(
                 if is_last(end) {
                     return Ok(ended(end, cpu.ran));
                 }
+                tell(observer, m, cpu);
             }
             Err(halt) => {
                 put(&mut line, "  <- stopped here\n", out)?;
