@@ -1,5 +1,5 @@
 -- What calls on the two levels leave, one after another.
-use Rattle.std.proofs.Common.{◌≡◌, ℕ, pos, ◌<◌, ◌≤◌, Bool, true, false, None, is_some, [], List, IsTrue, Result, Ok, Err, IfOk, IfErr, refl, sym, ◌∙◌, ap, subst, arith, ⊎_elim}
+use Rattle.std.proofs.Common.{◌≡◌, ℕ, pos, ◌<◌, ◌≤◌, Bool, true, false, None, is_some, [], List, ◌∷◌, ◌++◌, map, IsTrue, Result, Ok, Err, IfOk, IfErr, refl, sym, ◌∙◌, ap, subst, arith, ⊎_elim}
 use Rattle.std.specs.Result.{OnOk, IsErrAnd}
 use Rattle.long_names.specs.declared.value.Value.{Value}
 use Rattle.long_names.specs.Thin.{IsThinner}
@@ -36,14 +36,17 @@ use Rattle.counted_core.specs.Counted.{IsSound}
 use Rattle.counted_core.specs.Steps.{with_change, with_core, folded}
 use Rattle.counted_core.proofs.ChangeLaws.{folded-sound, folded-heap}
 use Rattle.counted_core.proofs.LevelLaws.{heap-same}
-use Rattle.delta_counts.specs.Parts.{core_with, IsNames, IsReferred, IsHeldMore, IsHeldLess}
+use Rattle.delta_counts.specs.Parts.{core_with, IsCounting, IsNames, IsReferred, IsHeldMore, IsHeldLess}
 use Rattle.delta_counts.specs.At.{IsAt, AtSome, IsReached, IsSoundWith, CanFold, IsFolded, Drains, DrainsOne}
 use Rattle.delta_counts.specs.Giving.{IsGiving}
 use Rattle.delta_counts.specs.Faults.{IsFreeFault}
 use Rattle.delta_counts.specs.Effects.{core_in, HasSound, HeapStep, Same, Thinner, IsHeapStep, Reaches, Leaves, Keeps, Counts, Frees, Refers}
 use Rattle.delta_counts.specs.declared.two_levels.TwoLevels.{TwoLevels}
 use Rattle.delta_counts.proofs.AtLaws.{entry-is}
-use Rattle.delta_counts.proofs.DrainLaws.{thinner-one}
+use Rattle.delta_counts.specs.Shorts.{Lowers, short_value}
+use Rattle.delta_counts.proofs.DrainLaws.{counting-giving, thinner-one}
+use Rattle.delta_counts.proofs.PartLaws.{counting-trans}
+use Rattle.delta_counts.proofs.ShortLaws.{lowers-then, values-same}
 use Rattle.delta_counts.proofs.FaultLaws.{err-map, fault-slots, free-again, slots-again, slots-free}
 use Rattle.delta_counts.proofs.RefLaws.{refs-sound}
 use Rattle.delta_counts.proofs.GiveLaws.{giving-refl, giving-trans, giving-tight, leaf-can, leaf-stored}
@@ -262,6 +265,46 @@ pub leaf-zero : {H : Type 0} {host : Ghosts H} (l : TwoLevels H host) (q : Parts
     → ((chunks : ℕ → Chunk) (t : Levels) → IsAt host chunks l.parts.names l.disk.host.now l.disk.rest t → CanFold s t → IfOk r (IsFolded host chunks q now rest t s)) → OnOk r ((entry_at q.table s).change ≡ pos 0)
 leaf-zero {H} {host} l q now rest s (Ok k) used leaf has told f = leaf-none l q now rest s k used leaf has told f
 leaf-zero {H} {host} l q now rest s (Err e) used leaf has told f = tt
+
+-- ---- short words
+
+pub lowered-leaves : {H : Type 0} {host : Ghosts H} (a b : TwoLevels H host) → b.disk ≡ a.disk → b.parts.segment ≡ a.parts.segment → IsCounting a.parts.names b.parts.names → Leaves Same a b
+lowered-leaves {H} {host} a b disk same counting = record {
+  disk = rw disk (stays-refl host a.disk);
+  held = rw disk refl;
+  segment = same;
+  giving = counting-giving a.parts.names b.parts.names counting;
+}
+
+-- the first word and then the others
+pub lowered-keeps : {H : Type 0} {host : Ghosts H} (a b : TwoLevels H host) (q : Parts2) (w : ℕ) (ws : List ℕ) → b.disk ≡ a.disk → b.parts.segment ≡ a.parts.segment → IsCounting a.parts.names q → IsCounting q b.parts.names
+    → Lowers a.parts.names q (short_value (entry_at a.parts.names.table) w ∷ []) → Lowers q b.parts.names (map (short_value (entry_at q.table)) ws)
+    → Keeps Same (map (short_value (entry_at a.parts.names.table)) (w ∷ ws)) [] a b
+lowered-keeps {H} {host} a b q w ws disk same first last one rest told t at x = record {
+  levels = with_core t (core_with (chunk_at b.parts.segment) b.parts.names);
+  at = record { core = refl; disk = rw disk at.disk };
+  sound = subst (λ (g : Segment). IsSound (with_core t (core_with (chunk_at g) b.parts.names)) []) (sym same)
+      (both (chunk_at a.parts.segment) t [] at.core (subst (λ (vs : List Value). IsSound t vs) (sym (no-more (map f (w ∷ ws)))) x));
+  heap = heap-same t (with_core t (core_with (chunk_at b.parts.segment) b.parts.names)) keeps.held refl;
+}
+  where
+    f : ℕ → Value
+    f = short_value (entry_at a.parts.names.table)
+
+    no-more : (vs : List Value) → vs ++ [] ≡ vs
+    no-more [] = refl
+    no-more (v ∷ vs) = ap (λ (us : List Value). v ∷ us) (no-more vs)
+
+    both : Lowers a.parts.names b.parts.names (map f (w ∷ ws))
+    both = lowers-then a.parts.names q b.parts.names (f w ∷ []) (map f ws) one (subst (λ (vs : List Value). Lowers q b.parts.names vs) (values-same a.parts.names q ws first) rest)
+
+    all : IsCounting a.parts.names b.parts.names
+    all = counting-trans a.parts.names q b.parts.names first last
+
+    keeps : Kept (records_of t) t.core (core_with (chunk_at b.parts.segment) b.parts.names)
+    keeps = subst (λ (g : Segment). Kept (records_of t) t.core (core_with (chunk_at g) b.parts.names)) (sym same)
+        (subst (λ (c : Core). Kept (records_of t) c (core_with (chunk_at a.parts.segment) b.parts.names)) at.core
+        (all.stays (chunk_at a.parts.segment) (over-core a.parts a.whole.parts) (records_of t) (subst (λ (c : Core). IsBacked c (records_of t)) (sym at.core) x.backed)))
 
 -- ---- references
 

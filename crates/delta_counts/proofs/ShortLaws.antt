@@ -1,6 +1,6 @@
 -- Short words that are lowered, one after another.
 use Rattle.std.specs.Prelude.{negsuc}
-use Rattle.std.proofs.Common.{zero, suc, ◌≡◌, ℕ, ℤ, ◌+ℤ◌, ◌+◌, ◌%◌, eqb, Bool, true, false, cond, List, [], ◌∷◌, ◌++◌, map, take, length, ◌<◌, ◌≤◌, Option, Some, refl, sym, ◌∙◌, ap, subst, arith}
+use Rattle.std.proofs.Common.{zero, suc, ◌≡◌, ℕ, ℤ, ◌+ℤ◌, ◌+◌, ◌%◌, eqb, Bool, true, false, cond, List, [], ◌∷◌, ◌++◌, map, take, length, ◌<◌, ◌≤◌, Option, Some, refl, sym, ◌∙◌, ap, ap₂, subst, arith}
 use Rattle.std.specs.Prelude.{slice_index}
 use Rattle.long_names.specs.declared.value.Value.{Value}
 use Rattle.long_names.specs.declared.value.Value.TheVariants.{Int, Ref}
@@ -19,7 +19,7 @@ use Rattle.long_names.proofs.CountLaws.{word_is}
 use Rattle.counted_core.proofs.CanLaws.{change-less}
 use Rattle.resident_table.specs.declared.Parts2.{Parts2}
 use Rattle.delta_counts.specs.Parts.{core_with, IsChange, IsCounting}
-use Rattle.delta_counts.specs.Shorts.{IsAtHand, Lowers, short_value}
+use Rattle.delta_counts.specs.Shorts.{AreAtHand, IsAtHand, Lowers, short_value}
 
 number-sound : (t : Levels) (z : ℤ) (owed : List Value) → IsSound t (Int z ∷ owed) → IsSound t owed
 number-sound t z owed x = sound-as t (Int z ∷ owed) owed x (λ q. let a = words-cons (Int z) owed q in let b : word_is q (Int z) ≡ 0 = refl in omega arith)
@@ -89,3 +89,15 @@ taken-all f [] zero low = refl
 taken-all f [] (suc i) low = refl
 taken-all f (x ∷ xs) zero low = absurd (omega arith)
 taken-all f (x ∷ xs) (suc i) low = ap (λ (vs : List Value). f x ∷ vs) (taken-all f xs i (omega arith))
+
+-- ---- the first word, and the others behind it
+
+pub hand-first : (p : Parts2) (w : ℕ) (ws : List ℕ) → AreAtHand p (w ∷ ws) → IsAtHand p w
+hand-first p w ws all = all 0 w refl
+
+pub hand-rest : (p q : Parts2) (w : ℕ) (ws : List ℕ) → IsCounting p q → AreAtHand p (w ∷ ws) → AreAtHand q ws
+hand-rest p q w ws same all i x e = hand-same p q x same (all (suc i) x e)
+
+pub values-same : (p q : Parts2) (ws : List ℕ) → IsCounting p q → map (short_value (entry_at q.table)) ws ≡ map (short_value (entry_at p.table)) ws
+values-same p q [] same = refl
+values-same p q (w ∷ ws) same = ap₂ (λ (v : Value) (vs : List Value). v ∷ vs) (value-same p q w same) (values-same p q ws same)

@@ -9,6 +9,7 @@ use crate::draining::drain_one;
 use crate::folding::fold;
 use crate::freeing::drain_pending;
 use crate::giving::{give_up, is_idle};
+use crate::shorts::{lower_short, lower_shorts};
 use crate::words::lower_words;
 use disk_objects::DiskObjects;
 use leaf_lambda::Parts;
@@ -25,14 +26,15 @@ pub struct TwoLevels<'h, H: Host> {
 }
 
 impl<'h, H: Host> TwoLevels<'h, H> {
-    ghost use Rattle.std.specs.Prelude.{◌≡◌, ◌<◌, ◌≤◌, ◌+◌, ◌-◌, ◌^◌, [], true, pos, None, map, IsTrue, IfOk, IfErr, OnOk};
-    ghost use Rattle.object_table.specs.Entries.{is_short, is_used, place_of};
+    ghost use Rattle.std.specs.Prelude.{◌≡◌, ◌<◌, ◌≤◌, ◌+◌, ◌-◌, ◌^◌, [], ◌∷◌, true, pos, None, map, IsTrue, IfOk, IfErr, OnOk};
+    ghost use Rattle.object_table.specs.Entries.{free_entry, is_short, is_used, place_of};
     ghost use Rattle.object_table.specs.Table.{bound_of, entries_of, entry_at};
     ghost use Rattle.core_view.specs.Counts.{outside};
     ghost use Rattle.delta_counts.specs.Parts.{IsCounting, IsHeldLess, IsHeldMore};
     ghost use Rattle.delta_counts.specs.Giving.{IsIdleEntry, NoneIdleBelow};
     ghost use Rattle.delta_counts.specs.Effects.{core_in, Counts, Frees, HasSound, Keeps, Leaves, Refers, Same, StandsFor};
     ghost use Rattle.delta_counts.specs.At.{Drains, DrainsOne};
+    ghost use Rattle.delta_counts.specs.Shorts.{AreAtHand, short_value};
     ghost use Rattle.delta_counts.specs.Faults.{AreValues, IsWordsFault};
     ghost use Rattle.counted_core.specs.Counted.{IsSound, words_of};
     ghost use Rattle.counted_core.specs.Levels.{Levels};
@@ -82,10 +84,31 @@ impl<'h, H: Host> TwoLevels<'h, H> {
         requires within { s.0 < bound_of self.old.parts.names.table }
         ensures counts { Counts Same [] [] self.old self.new result }
         ensures gone { OnOk result (IsIdleEntry (entry_at self.new.parts.names.table s.0) → ⊥) }
+        ensures freed { IsIdleEntry (entry_at self.old.parts.names.table s.0) → OnOk result (entry_at self.new.parts.names.table s.0 ≡ free_entry) }
     {
         if is_idle(&self.parts.names, s) {
             return give_up(&mut self.parts.names, &mut self.disk, s);
         }
+        Ok(())
+    }
+
+    /// The change of a leaf joins its count on disk, unless there is none; and its entry goes where nothing refers to it.
+    pub fn fold_leaf(&mut self, s: Short) -> Result<(), DiskFault>
+        requires sound { HasSound self.old [] }
+        requires used { is_used (entry_at self.old.parts.names.table s.0).state ≡ true }
+        requires leaf { place_of (entry_at self.old.parts.names.table s.0).state ≡ None }
+        ensures counts { Counts Same [] [] self.old self.new result }
+        ensures none { OnOk result (is_used (entry_at self.new.parts.names.table s.0).state ≡ true → 1 ≤ (entry_at self.new.parts.names.table s.0).refs) }
+        ensures folded { IsTrue (H.tells Role.Work) → OnOk result ((entry_at self.new.parts.names.table s.0).change ≡ pos 0) }
+    {
+        let e = self.parts.names.table.used_entry(s);
+        if e.refs == 0 {
+            return self.give_idle_at(s);
+        }
+        if e.change == 0 {
+            return Ok(());
+        }
+        self.fold(s)?;
         Ok(())
     }
 
@@ -114,6 +137,16 @@ impl<'h, H: Host> TwoLevels<'h, H> {
             self.old.disk.rest (words_of (object_in (raw_of buf.now))) place (raw_of buf.now).name) }
     {
         lower_words(&mut self.parts.names, &mut self.disk, buf, place)
+    }
+
+    /// One word less for each of these short words, none of which is a lambda.
+    pub fn lower_shorts(&mut self, class: Short, words: &[u16])
+        requires hand { AreAtHand self.old.parts.names (class.0 ∷ words.now) }
+        ensures leaves { Leaves Same self.old self.new }
+        ensures keeps { Keeps Same (map (short_value (entry_at self.old.parts.names.table)) (class.0 ∷ words.now)) [] self.old self.new }
+    {
+        lower_short(&mut self.parts.names, class.0);
+        lower_shorts(&mut self.parts.names, words);
     }
 
     /// Frees the first dead name that is pending, whose record is in the buffer then, and lowers the counts of what it held. False exactly where
