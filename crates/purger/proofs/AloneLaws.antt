@@ -30,6 +30,7 @@ use Rattle.resident_table.specs.declared.Parts2.{Parts2}
 use Rattle.delta_counts.specs.Parts.{core_with, IsCounting}
 use Rattle.delta_counts.specs.Shorts.{AreAtHand, IsAtHand, Lowers, short_value}
 use Rattle.delta_counts.specs.At.{IsReached}
+use Rattle.delta_counts.proofs.PartLaws.{counting-refl}
 use Rattle.delta_counts.proofs.ShortLaws.{lowers-then}
 use Rattle.purger.specs.Alone.{AreFields, NoneIsZero}
 use Rattle.purger.specs.Draining.{IsForgotten}
@@ -132,6 +133,17 @@ alone-reached host m q r now rest t o n v vs is first last same w = record {
     no-more : (xs : List Value) → xs ++ [] ≡ xs
     no-more [] = refl
     no-more (x ∷ xs) = ap (λ (ys : List Value). x ∷ ys) (no-more xs)
+
+-- ---- the class and the fields of what went
+
+pub all-hand : (c : Core) (m : Parts) (s p : ℕ) (ws : List ℕ) → IsCore c → place_of (c.entries s).state ≡ Some p → (c.entries s).refs ≡ 0 → IsForgotten s c (core_of m) → AreFields c s ws → NoneIsZero ws → AreAtHand m.names ((c.entries s).class.0 ∷ ws)
+all-hand c m s p ws core at none f fields whole zero w e = subst (λ (x : ℕ). IsAtHand m.names x) (let same : Some (c.entries s).class.0 ≡ Some w = e in cc) (class-hand c m s p core at none f)
+all-hand c m s p ws core at none f fields whole (suc i) w e = words-hand c m m.names s p ws core at none f (counting-refl m.names) fields whole i w e
+
+pub all-same : (c : Core) (m : Parts) (disk : Disk) (s p : ℕ) (ws : List ℕ) → IsCore c → place_of (c.entries s).state ≡ Some p → (c.entries s).refs ≡ 0 → IsForgotten s c (core_of m) → AreFields c s ws → NoneIsZero ws
+    → words_of (object_at c disk (c.entries s) p) ≡ map (short_value (entry_at m.names.table)) ((c.entries s).class.0 ∷ ws)
+all-same c m disk s p ws core at none f fields whole = alone-words c disk s p ws core at fields whole
+    ∙ ap₂ (λ (v : Value) (vs : List Value). v ∷ vs) (sym (class-same c m s p core at none f)) (sym (words-same c m m.names s p ws core at none f (counting-refl m.names) fields whole))
 
 -- ---- words that were copied
 

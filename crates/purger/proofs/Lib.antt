@@ -17,3 +17,5 @@ pub mod OnlyLaws
 pub mod SweptLaws
 pub mod PagerLaws
 pub mod FreeingLaws
+pub mod LeavingLaws
+pub mod DyingLaws

@@ -33,7 +33,7 @@ use Rattle.purger.proofs.SoundLaws.{has-after, has-objects}
 pub over-refl : (c : Core) (disk : Store) → IsBacked c disk → KeepsOver c disk c disk
 over-refl c disk backed = record { backed = backed; held = refl }
 
-purge-fault : {H : Type 0} (host : Ghosts H) (old new : H) (rest : DiskRest) (c : Core) (s p : ℕ) (f : DiskFault) → IsCore c → place_of (c.entries s).state ≡ Some p → (IsTrue (host.tells Work) → disk_held rest + fresh_of c ≤ disk_room rest)
+pub purge-fault : {H : Type 0} (host : Ghosts H) (old new : H) (rest : DiskRest) (c : Core) (s p : ℕ) (f : DiskFault) → IsCore c → place_of (c.entries s).state ≡ Some p → (IsTrue (host.tells Work) → disk_held rest + fresh_of c ≤ disk_room rest)
     → IsEvictFault host old new rest (c.entries s).flags.fresh f → IsPurgeFault host old new f
 purge-fault {H} host old new rest c s p (fault.Work count) core at counted cause = cause
 purge-fault {H} host old new rest c s p (fault.Full held room) core at counted cause = λ told.

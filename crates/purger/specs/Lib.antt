@@ -8,3 +8,4 @@ pub mod Rounds
 pub mod Alone
 pub mod Pager
 pub mod Freeing
+pub mod Leaving

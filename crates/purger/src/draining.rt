@@ -35,7 +35,7 @@ use object_record::RecordBuf;
 use object_table::Short;
 
 // Whether a change and a count on disk come to nothing.
-fn comes_to_none(change: i64, count: u64) -> bool
+pub(crate) fn comes_to_none(change: i64, count: u64) -> bool
     ensures { IsTrue result ↔ (change +ℤ pos count ≡ pos 0) }
 {
     if change > 0 {
@@ -46,7 +46,7 @@ fn comes_to_none(change: i64, count: u64) -> bool
 
 // The count on disk of the name of an entry: of a fresh object, which has no record, 0, and nothing is read.
 #[inline(always)]
-fn count_behind<H: Host>(
+pub(crate) fn count_behind<H: Host>(
     disk: &mut DiskObjects<'_, H>,
     name: Name,
     fresh: bool,

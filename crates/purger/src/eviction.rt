@@ -128,7 +128,10 @@ pub(crate) fn count_of<H: Host>(disk: &mut DiskObjects<'_, H>, name: Name) -> Re
 }
 
 // Writes a record, with the count that its name has on disk, or 0 where it is the first.
-fn store<H: Host>(disk: &mut DiskObjects<'_, H>, buf: &RecordBuf) -> Result<(), DiskFault>
+pub(crate) fn store<H: Host>(
+    disk: &mut DiskObjects<'_, H>,
+    buf: &RecordBuf,
+) -> Result<(), DiskFault>
     requires record { HasRecord buf.now }
     requires stands { HoldsObjects H.Host disk.old.host.now disk.old.rest }
     ensures stored { IsTrue (H.tells Role.Work) → (stored : ℕ → Option Stored) (pending : List ℕ) →
@@ -178,7 +181,7 @@ fn write_back<H: Host>(
 
 // Whether an object is just as its record.
 #[inline(always)]
-fn is_clean(p: &Parts, s: Short) -> bool
+pub(crate) fn is_clean(p: &Parts, s: Short) -> bool
     requires parts { IsParts p.now }
     requires used { is_used ((core_of p.now).entries s.0).state ≡ true }
     ensures clean { IsTrue result → (((core_of p.now).entries s.0).flags.fresh ≡ false) × (((core_of p.now).entries s.0).flags.changed ≡ false) }

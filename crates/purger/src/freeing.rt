@@ -1,5 +1,5 @@
 //! Dead objects go from a pager: names that have no body are freed on disk, and an object with a body is freed without being written.
-use crate::draining::{Next, entry_of, free_dead_at};
+use crate::draining::{Next, entry_of};
 use crate::pager::Pager;
 use crate::room::{Pinned, RoomFault};
 use core_segment::laws::chunks_never_overlap;
@@ -23,21 +23,6 @@ impl<'h, H: Host> Pager<'h, H> {
     ghost use Rattle.purger.specs.Freeing.{FreesAll, FreesBare, FreesDead, HasTold, KeepsAll};
     ghost use Rattle.purger.specs.Pager.{core_in, IsReady};
     ghost use Rattle.purger.specs.Purge.{IsPurgeFault};
-
-    // Frees the object of an entry, if it has a body and is dead. Where it was, and something may go with it, its record is in the buffer then; else
-    // that has what it had.
-    fn free_dead_at(&mut self, s: Short) -> Result<bool, DiskFault>
-        requires sound { HasSound self.old.levels [] }
-        requires short { is_short s.0 ≡ true }
-        requires within { s.0 < bound_of self.old.levels.parts.names.table }
-        ensures frees { FreesDead self.old self.new result }
-        ensures told { IfOk result (HasTold self.old self.new) }
-        ensures none { IsTrue (H.tells Role.Work) → OnOk result (free_of self.new.levels.parts.segment ≡ free_of self.old.levels.parts.segment → KeepsAll self.old self.new (NotDeadAt s.0)) }
-        ensures held { OnOk result (disk_held self.new.levels.disk.rest ≤ disk_held self.old.levels.disk.rest) }
-    {
-        let levels = &mut self.levels;
-        free_dead_at(&mut levels.parts, &mut levels.disk, &mut self.out, s)
-    }
 
     // Gives up the entry of an idle leaf, whose name is pending then where it is dead; or frees the object of an entry, if it has a body and is dead.
     fn free_at(&mut self, s: Short) -> Result<bool, DiskFault>

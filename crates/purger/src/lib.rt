@@ -38,10 +38,12 @@
 mod alone;
 pub mod closing;
 pub mod draining;
+mod dying;
 pub mod eviction;
 pub mod freeing;
 mod idle;
 pub mod laws;
+mod leaving;
 pub mod marks;
 pub mod pager;
 pub mod room;

@@ -1,7 +1,6 @@
 //! The core and the disk as one struct that pages: objects leave the core until there is room.
 //!
 //! What the parts keep is a fact of the levels' type, so it holds also behind a fault. That they stand for sound levels is a condition and a promise.
-use crate::eviction::evict;
 use crate::idle::idle_behind;
 use crate::room::{
     Behind, NOTHING, Pinned, ROUND_PARTS, RoomFault, has_room, has_turned, is_together,
@@ -87,22 +86,6 @@ impl<'h, H: Host> Pager<'h, H> {
         }
         self.free_idle()?;
         Ok(NOTHING)
-    }
-
-    /// Evicts an object that isn't pinned: where it differs from its record or has none it is written, with its lambdas as the old record has them
-    /// and with the count that its name has on disk; then its body goes, and its change joins that count. Its entry goes too where nothing refers to
-    /// it. If it was marked, all marks go.
-    pub fn evict(&mut self, s: Short) -> Result<(), DiskFault>
-        requires ready { IsReady self.old }
-        requires body { (at : ℕ) × (place_of ((core_in self.old).entries s.0).state ≡ Some at) }
-        requires loose { is_among self.old.pinned.a self.old.pinned.b self.old.pinned.d s.0 ≡ false }
-        ensures purges { Purges self.old self.new result }
-        ensures one { KeepsAllBut s.0 (core_in self.old) (core_in self.new) }
-        ensures left { OnOk result (HasLeft s.0 self.new) }
-        ensures unmarked { ((core_in self.old).entries s.0).flags.marked ≡ false → KeepsMarks (core_in self.old) (core_in self.new) }
-    {
-        let levels = &mut self.levels;
-        evict(&mut levels.parts, &mut levels.disk, &mut self.out, s)
     }
 
     // Evicts an object. Where the idle leaves are room enough then, as they are reckoned, they are given up: so the table is swept for them
