@@ -1,17 +1,13 @@
 -- Objects that die alone: what their short words mean, and that it stays so while they go.
-use Rattle.std.proofs.Common.{zero, suc, ◌≡◌, ◌≢◌, ℕ, ◌<◌, ◌≤◌, ◌%◌, eqb, Bool, true, false, cond, List, [], ◌∷◌, ◌++◌, map, take, length, Some, None, refl, sym, ◌∙◌, ap, ap₂, subst, arith}
+use Rattle.std.proofs.Common.{zero, suc, ◌≡◌, ◌≢◌, ℕ, ◌≤◌, ◌%◌, eqb, Bool, true, false, cond, List, [], ◌∷◌, map, Some, refl, sym, ◌∙◌, ap, ap₂, subst, arith}
 use Rattle.std.specs.Prelude.{slice_get}
 use Rattle.std.proofs.lemmas.Bool.{ne_eqb}
 use Rattle.std.proofs.lemmas.Grind.{common_steps}
 use Rattle.long_names.specs.declared.value.Value.{Value}
 use Rattle.long_names.specs.declared.value.Value.TheVariants.{Int, Ref}
-use Rattle.long_names.specs.declared.object.Object.{Object}
-use Rattle.loom_host.specs.declared.outside.Host.{Ghosts}
-use Rattle.disk_objects.specs.declared.rest.DiskRest.{DiskRest}
 use Rattle.object_table.specs.declared.entry.Entry.{Entry}
 use Rattle.object_table.specs.Entries.{is_short, is_used, place_of, free_entry}
 use Rattle.object_table.specs.Table.{entry_at}
-use Rattle.core_segment.specs.Segment.{chunk_at}
 use Rattle.core_view.specs.Core.{Core}
 use Rattle.core_view.specs.Counts.{uses}
 use Rattle.core_view.specs.Held.{Disk, fields_there, object_at}
@@ -22,19 +18,10 @@ use Rattle.core_view.proofs.Lists.{put-there}
 use Rattle.core_view.proofs.Words.{body-fields}
 use Rattle.leaf_lambda.specs.declared.parts.Parts.{Parts}
 use Rattle.leaf_lambda.specs.Parts.{core_of}
-use Rattle.counted_core.specs.Levels.{Levels, records_of}
-use Rattle.counted_core.specs.Counted.{words_of, IsSound}
-use Rattle.counted_core.specs.Steps.{with_core}
-use Rattle.counted_core.proofs.LevelLaws.{heap-same}
-use Rattle.resident_table.specs.declared.Parts2.{Parts2}
-use Rattle.delta_counts.specs.Parts.{core_with, IsCounting}
-use Rattle.delta_counts.specs.Shorts.{AreAtHand, IsAtHand, Lowers, short_value}
-use Rattle.delta_counts.specs.At.{IsReached}
-use Rattle.delta_counts.proofs.PartLaws.{counting-refl}
-use Rattle.delta_counts.proofs.ShortLaws.{lowers-then}
+use Rattle.counted_core.specs.Counted.{words_of}
+use Rattle.delta_counts.specs.Shorts.{AreAtHand, IsAtHand, short_value}
 use Rattle.purger.specs.Alone.{AreFields, NoneIsZero}
 use Rattle.purger.specs.Draining.{IsForgotten}
-use Rattle.purger.proofs.ForgetLaws.{IsOwedAt}
 
 -- ---- what the words mean
 
@@ -52,7 +39,7 @@ class-value : (entries : ℕ → Entry) (w : ℕ) → is_short w ≡ true → sh
 class-value entries w short = ap (λ (b : Bool). cond b (Int (int_of_short w)) (Ref (entries w).name)) (class-even w short)
 
 -- what an object holds, by its short words
-pub alone-words : (c : Core) (disk : Disk) (s p : ℕ) (ws : List ℕ) → IsCore c → place_of (c.entries s).state ≡ Some p → AreFields c s ws → NoneIsZero ws
+alone-words : (c : Core) (disk : Disk) (s p : ℕ) (ws : List ℕ) → IsCore c → place_of (c.entries s).state ≡ Some p → AreFields c s ws → NoneIsZero ws
     → words_of (object_at c disk (c.entries s) p) ≡ short_value c.entries (c.entries s).class.0 ∷ map (short_value c.entries) ws
 alone-words c disk s p ws core at fields none = ap₂ (λ (v : Value) (vs : List Value). v ∷ vs) (sym (class-value c.entries (c.entries s).class.0 (core.classed s p at)))
     (body-fields c.entries old (c.chunks p).words (c.entries s).kind (c.entries s).len ∙ ap (values_by (meant c.entries old)) (sym (fields p at))
@@ -79,13 +66,13 @@ not-itself c s w core none some is =
     let refs = ap (λ (k : ℕ). (c.entries k).refs) is in
     omega (arith, some, most, refs, none)
 
-pub class-hand : (c : Core) (m : Parts) (s p : ℕ) → IsCore c → place_of (c.entries s).state ≡ Some p → (c.entries s).refs ≡ 0 → IsForgotten s c (core_of m) → IsAtHand m.names (c.entries s).class.0
+class-hand : (c : Core) (m : Parts) (s p : ℕ) → IsCore c → place_of (c.entries s).state ≡ Some p → (c.entries s).refs ≡ 0 → IsForgotten s c (core_of m) → IsAtHand m.names (c.entries s).class.0
 unfolding core_of
 class-hand c m s p core at none f even =
     let some = class-used c core s p at in
     (forgotten-entry c (core_of m) s (c.entries s).class.0 f (not-itself c s (c.entries s).class.0 core none some) (used-live c core (c.entries s).class.0 some)).0
 
-pub class-same : (c : Core) (m : Parts) (s p : ℕ) → IsCore c → place_of (c.entries s).state ≡ Some p → (c.entries s).refs ≡ 0 → IsForgotten s c (core_of m) → short_value (entry_at m.names.table) (c.entries s).class.0 ≡ short_value c.entries (c.entries s).class.0
+class-same : (c : Core) (m : Parts) (s p : ℕ) → IsCore c → place_of (c.entries s).state ≡ Some p → (c.entries s).refs ≡ 0 → IsForgotten s c (core_of m) → short_value (entry_at m.names.table) (c.entries s).class.0 ≡ short_value c.entries (c.entries s).class.0
 unfolding core_of
 class-same c m s p core at none f =
     let w = (c.entries s).class.0 in
@@ -95,62 +82,35 @@ class-same c m s p core at none f =
 word-there : (c : Core) (s p i w : ℕ) (ws : List ℕ) → IsCore c → place_of (c.entries s).state ≡ Some p → AreFields c s ws → NoneIsZero ws → slice_get ws i ≡ Some w → eqb (w % 2) 1 ≡ false → 1 ≤ uses c w
 word-there c s p i w ws core at fields none e even = word-used c core s p i w at (ap (λ (xs : List ℕ). slice_get xs i) (sym (fields p at)) ∙ e) (short-of w even (none i w e))
 
-pub words-hand : (c : Core) (m : Parts) (q : Parts2) (s p : ℕ) (ws : List ℕ) → IsCore c → place_of (c.entries s).state ≡ Some p → (c.entries s).refs ≡ 0 → IsForgotten s c (core_of m) → IsCounting m.names q → AreFields c s ws → NoneIsZero ws → AreAtHand q ws
+words-hand : (c : Core) (m : Parts) (s p : ℕ) (ws : List ℕ) → IsCore c → place_of (c.entries s).state ≡ Some p → (c.entries s).refs ≡ 0 → IsForgotten s c (core_of m) → AreFields c s ws → NoneIsZero ws → AreAtHand m.names ws
 unfolding core_of
-words-hand c m q s p ws core at none f same fields whole i w e even =
+words-hand c m s p ws core at none f fields whole i w e even =
     let some = word-there c s p i w ws core at fields whole e even in
-    ap (λ (x : Entry). is_used x.state) (same.entries w) ∙ (forgotten-entry c (core_of m) s w f (not-itself c s w core none some) (used-live c core w some)).0
+    (forgotten-entry c (core_of m) s w f (not-itself c s w core none some) (used-live c core w some)).0
 
 map-same : (f g : ℕ → Value) (ws : List ℕ) → ((i w : ℕ) → slice_get ws i ≡ Some w → f w ≡ g w) → map f ws ≡ map g ws
 map-same f g [] same = refl
 map-same f g (w ∷ ws) same = ap₂ (λ (v : Value) (vs : List Value). v ∷ vs) (same 0 w refl) (map-same f g ws (λ i x e. same (suc i) x e))
 
-pub words-same : (c : Core) (m : Parts) (q : Parts2) (s p : ℕ) (ws : List ℕ) → IsCore c → place_of (c.entries s).state ≡ Some p → (c.entries s).refs ≡ 0 → IsForgotten s c (core_of m) → IsCounting m.names q → AreFields c s ws → NoneIsZero ws
-    → map (short_value (entry_at q.table)) ws ≡ map (short_value c.entries) ws
+words-same : (c : Core) (m : Parts) (s p : ℕ) (ws : List ℕ) → IsCore c → place_of (c.entries s).state ≡ Some p → (c.entries s).refs ≡ 0 → IsForgotten s c (core_of m) → AreFields c s ws → NoneIsZero ws
+    → map (short_value (entry_at m.names.table)) ws ≡ map (short_value c.entries) ws
 unfolding core_of
-words-same c m q s p ws core at none f same fields whole = map-same (short_value (entry_at q.table)) (short_value c.entries) ws (λ i w e. go i w e (eqb (w % 2) 1) refl)
+words-same c m s p ws core at none f fields whole = map-same (short_value (entry_at m.names.table)) (short_value c.entries) ws (λ i w e. go i w e (eqb (w % 2) 1) refl)
   where
-    go : (i w : ℕ) → slice_get ws i ≡ Some w → (b : Bool) → eqb (w % 2) 1 ≡ b → short_value (entry_at q.table) w ≡ short_value c.entries w
-    go i w e true odd = ap (λ (b : Bool). cond b (Int (int_of_short w)) (Ref (entry_at q.table w).name)) odd ∙ sym (ap (λ (b : Bool). cond b (Int (int_of_short w)) (Ref (c.entries w).name)) odd)
+    go : (i w : ℕ) → slice_get ws i ≡ Some w → (b : Bool) → eqb (w % 2) 1 ≡ b → short_value (entry_at m.names.table) w ≡ short_value c.entries w
+    go i w e true odd = ap (λ (b : Bool). cond b (Int (int_of_short w)) (Ref (entry_at m.names.table w).name)) odd ∙ sym (ap (λ (b : Bool). cond b (Int (int_of_short w)) (Ref (c.entries w).name)) odd)
     go i w e false even =
         let some = word-there c s p i w ws core at fields whole e even in
         ap (λ (n : ℕ). cond (eqb (w % 2) 1) (Int (int_of_short w)) (Ref n))
-        (ap (λ (x : Entry). x.name) (same.entries w) ∙ (forgotten-entry c (core_of m) s w f (not-itself c s w core none some) (used-live c core w some)).1)
-
--- ---- it went, and what it held has a word less
-
-pub alone-reached : {H : Type 0} (host : Ghosts H) (m : Parts) (q r : Parts2) (now : H) (rest : DiskRest) (t : Levels) (o : Object) (n : ℕ) (v : Value) (vs : List Value) → words_of o ≡ v ∷ vs → Lowers m.names q (v ∷ []) → Lowers q r vs
-    → IsCounting m.names r → (w : IsOwedAt host m now rest t o n) → IsReached host (chunk_at m.segment) r now rest w.levels []
-alone-reached host m q r now rest t o n v vs is first last same w = record {
-  levels = with_core w.levels (core_with (chunk_at m.segment) r);
-  at = record { core = refl; disk = w.at.disk };
-  sound = lowers-then m.names q r (v ∷ []) vs first last (chunk_at m.segment) w.levels [] w.at.core (subst (λ (xs : List Value). IsSound w.levels xs) (is ∙ sym (no-more (v ∷ vs))) w.sound);
-  heap = heap-same w.levels (with_core w.levels (core_with (chunk_at m.segment) r))
-      ((same.stays (chunk_at m.segment) (subst (λ (c : Core). IsCore c) (sym w.at.core) w.sound.core) (records_of w.levels) (subst (λ (c : Core). Rattle.core_view.specs.Kept.IsBacked c (records_of w.levels)) (sym w.at.core) w.sound.backed)).held
-      ∙ ap (λ (c : Core). Rattle.core_view.specs.Held.held c (records_of w.levels)) w.at.core) refl;
-}
-  where
-    no-more : (xs : List Value) → xs ++ [] ≡ xs
-    no-more [] = refl
-    no-more (x ∷ xs) = ap (λ (ys : List Value). x ∷ ys) (no-more xs)
+        (forgotten-entry c (core_of m) s w f (not-itself c s w core none some) (used-live c core w some)).1
 
 -- ---- the class and the fields of what went
 
 pub all-hand : (c : Core) (m : Parts) (s p : ℕ) (ws : List ℕ) → IsCore c → place_of (c.entries s).state ≡ Some p → (c.entries s).refs ≡ 0 → IsForgotten s c (core_of m) → AreFields c s ws → NoneIsZero ws → AreAtHand m.names ((c.entries s).class.0 ∷ ws)
 all-hand c m s p ws core at none f fields whole zero w e = subst (λ (x : ℕ). IsAtHand m.names x) (let same : Some (c.entries s).class.0 ≡ Some w = e in cc) (class-hand c m s p core at none f)
-all-hand c m s p ws core at none f fields whole (suc i) w e = words-hand c m m.names s p ws core at none f (counting-refl m.names) fields whole i w e
+all-hand c m s p ws core at none f fields whole (suc i) w e = words-hand c m s p ws core at none f fields whole i w e
 
 pub all-same : (c : Core) (m : Parts) (disk : Disk) (s p : ℕ) (ws : List ℕ) → IsCore c → place_of (c.entries s).state ≡ Some p → (c.entries s).refs ≡ 0 → IsForgotten s c (core_of m) → AreFields c s ws → NoneIsZero ws
     → words_of (object_at c disk (c.entries s) p) ≡ map (short_value (entry_at m.names.table)) ((c.entries s).class.0 ∷ ws)
 all-same c m disk s p ws core at none f fields whole = alone-words c disk s p ws core at fields whole
-    ∙ ap₂ (λ (v : Value) (vs : List Value). v ∷ vs) (sym (class-same c m s p core at none f)) (sym (words-same c m m.names s p ws core at none f (counting-refl m.names) fields whole))
-
--- ---- words that were copied
-
--- two lists of which the first has the elements of the second in front
-pub taken-same : (n : ℕ) (xs ys : List ℕ) → length ys ≡ n → ((j : ℕ) → j < n → slice_get xs j ≡ slice_get ys j) → take n xs ≡ ys
-taken-same zero xs [] long same = refl
-taken-same zero xs (y ∷ ys) long same = absurd (omega arith)
-taken-same (suc n) xs [] long same = absurd (omega arith)
-taken-same (suc n) [] (y ∷ ys) long same = absurd (let both : None ≡ Some y = same 0 (omega arith) in cc)
-taken-same (suc n) (x ∷ xs) (y ∷ ys) long same = ap₂ (λ (k : ℕ) (ks : List ℕ). k ∷ ks) (let both : Some x ≡ Some y = same 0 (omega arith) in cc) (taken-same n xs ys (omega arith) (λ j low. same (suc j) (omega arith)))
+    ∙ ap₂ (λ (v : Value) (vs : List Value). v ∷ vs) (sym (class-same c m s p core at none f)) (sym (words-same c m s p ws core at none f fields whole))

@@ -1,5 +1,5 @@
 -- Which objects with a body are dead, and those of a table one after another.
-use Rattle.std.proofs.Common.{◌≡◌, ◌≢◌, ℕ, ℤ, pos, ◌+ℤ◌, ◌+◌, ◌*◌, ◌%◌, ◌<◌, ◌≤◌, Bool, true, false, List, [], Option, Some, None, IsTrue, Result, Ok, Err, refl, sym, ◌∙◌, ap, subst, arith, ⊎_elim}
+use Rattle.std.proofs.Common.{◌≡◌, ◌≢◌, ℕ, ℤ, pos, ◌+ℤ◌, ◌+◌, ◌*◌, ◌%◌, ◌<◌, ◌≤◌, Bool, true, false, List, [], Option, Some, None, Result, Ok, Err, refl, sym, ◌∙◌, ap, subst, arith, ⊎_elim}
 use Rattle.std.specs.Prelude.{IsSome, IfSome, option_map}
 use Rattle.std.specs.Result.{IfErr}
 use Rattle.std.specs.FinMap as map
@@ -25,7 +25,7 @@ use Rattle.object_table.specs.declared.entry.Entry.{Entry}
 use Rattle.object_table.specs.declared.entry.Short.{Short}
 use Rattle.object_table.specs.Entries.{is_short, is_used, place_of, put}
 use Rattle.disk_objects.specs.declared.rest.DiskRest.{DiskRest}
-use Rattle.disk_objects.specs.Calls.{IsIdle, IsSlotsFault}
+use Rattle.disk_objects.specs.Calls.{IsIdle}
 use Rattle.disk_objects.specs.Disk.{IsDisk}
 use Rattle.core_view.specs.Core.{Core}
 use Rattle.core_view.specs.Counts.{uses, outside}
@@ -268,11 +268,6 @@ free-read tells first before now rest (fault.Damaged at about) low x = x.0
 pub free-read-if : {T : Type 0} (tells : Bool) (before now : ℕ) (rest : DiskRest) (r : Result T DiskFault) → IfErr r (Rattle.delta_counts.specs.Faults.IsFreeFault tells before now rest) → IfErr r (IsReadFault tells before now)
 free-read-if {T} tells before now rest (Ok v) x = tt
 free-read-if {T} tells before now rest (Err f) x = free-read tells before before now rest f (omega arith) x
-
-pub slots-read : (tells : Bool) (before now : ℕ) (rest : DiskRest) (f : DiskFault) → IsSlotsFault tells before now rest f → IsReadFault tells before now f
-slots-read tells before now rest (fault.Work count) x = x
-slots-read tells before now rest (fault.Full held room) x = x
-slots-read tells before now rest (fault.Damaged at about) x = x.0
 
 -- ---- by what a test says
 

@@ -1,6 +1,6 @@
 -- What the steps leave by which a dead object with a body goes, put together.
 use Rattle.std.proofs.Common.{◌≡◌, ℕ, ◌+◌, ◌<◌, ◌≤◌, Bool, IsTrue, Result, Ok, Err, true, false, [], List, Some, None, refl, sym, ap, subst, ◌∙◌, arith}
-use Rattle.std.specs.Result.{OnOk, IfOk, IfErr, IsErrAnd}
+use Rattle.std.specs.Result.{OnOk, IfOk, IfErr}
 use Rattle.long_names.specs.declared.value.Value.{Value}
 use Rattle.loom_host.specs.declared.outside.DiskFault.{DiskFault}
 use Rattle.loom_host.specs.declared.outside.Host.{Ghosts}
@@ -94,20 +94,6 @@ frees-behind {S} {T} {H} {host} s a b c q r x y = record {
   wider = subst (λ (p : Parts). OnOk r (free_of p.segment < free_of c.levels.parts.segment)) x.parts y.wider;
   held = subst (λ (d : DiskRest). OnOk r (disk_held c.levels.disk.rest ≤ disk_held d)) x.disk.rest y.held;
   fault = read-later-if (host.tells Work) (host.faults a.levels.disk.host.now Work) (host.faults b.levels.disk.host.now Work) (host.faults c.levels.disk.host.now Work) r x.disk.read.later y.fault;
-}
-
--- a fault that is handed on
-pub one-fault : {T H : Type 0} {host : Ghosts H} (s : ℕ) (a b : Pager H host) (r : Result T DiskFault) (f : DiskFault) → IsErrAnd r (λ y. y ≡ f) → LeavesNamed a b
-    → IsReadFault (host.tells Work) (host.faults a.levels.disk.host.now Work) (host.faults b.levels.disk.host.now Work) f → FreesOne s a b r
-one-fault {T} {H} {host} s a b (Ok x) f e leaves fault = absurd e
-one-fault {T} {H} {host} s a b (Err y) f e leaves fault = record {
-  leaves = leaves;
-  freed = λ told t at x dead. tt;
-  minds = tt;
-  gone = tt;
-  wider = tt;
-  held = tt;
-  fault = subst (λ (z : DiskFault). IsReadFault (host.tells Work) (host.faults a.levels.disk.host.now Work) (host.faults b.levels.disk.host.now Work) z) (sym e) fault;
 }
 
 -- ---- an object is taken out

@@ -1,6 +1,6 @@
 -- One object that is written and goes.
-use Rattle.std.proofs.Common.{◌≡◌, ℕ, ◌+◌, Bool, true, false, List, refl, sym, ◌∙◌, ap, subst, arith, Option, Some, None, is_some, cond, IsTrue, inl, Result, Ok, Err}
-use Rattle.std.specs.Result.{OnOk, IfErr}
+use Rattle.std.proofs.Common.{◌≡◌, ℕ, Bool, true, false, List, refl, ◌∙◌, ap, Option, Some, None, is_some, cond, IsTrue, inl, Result, Ok, Err}
+use Rattle.std.specs.Result.{IfErr}
 use Rattle.std.specs.FinMap as map
 use Rattle.long_names.specs.declared.object.Object.{Object}
 use Rattle.loom_host.specs.declared.outside.DiskFault.{DiskFault}
@@ -12,14 +12,10 @@ use Rattle.loom_host.specs.Work.{IsWorkRead, work_of}
 use Rattle.object_record.specs.Raw.{RawRecord}
 use Rattle.object_record.specs.Buffer.{raw_of}
 use Rattle.object_record.specs.Objects.{object_in}
-use Rattle.object_table.specs.Entries.{put, place_of}
 use Rattle.disk_objects.specs.declared.rest.DiskRest.{DiskRest}
-use Rattle.disk_objects.specs.Disk.{Objects, IsDisk, disk_held}
+use Rattle.disk_objects.specs.Disk.{Objects, IsDisk}
 use Rattle.disk_objects.specs.Calls.{HoldsObjects, IsFault, IsPutFault}
-use Rattle.disk_objects.specs.Function.{IsFetched, PutsObject, KeepsObjects, disk_of, objects_at, object_held}
-use Rattle.core_view.specs.Core.{Core}
-use Rattle.core_view.specs.Held.{Disk, object_at, disk_with}
-use Rattle.core_view.specs.Kept.{Keeps, KeepsOver}
+use Rattle.disk_objects.specs.Function.{IsFetched, KeepsObjects, disk_of, objects_at, object_held}
 use Rattle.disk_objects.specs.Places.{IsReadPlace}
 use Rattle.purger.specs.Purge.{IsReadFault, IsReadDamage, IsEvictFault}
 
@@ -62,29 +58,7 @@ pub get-damage-if : {T : Type 0} (tells : Bool) (before now : ℕ) (rest : DiskR
 get-damage-if {T} tells before now rest name (Ok x) cause = tt
 get-damage-if {T} tells before now rest name (Err f) cause = get-damage tells before now rest name f cause
 
--- is one of an eviction
-read-fault : {H : Type 0} (host : Ghosts H) (old new : H) (rest : DiskRest) (fresh : Bool) (f : DiskFault) → IsReadFault (host.tells Work) (host.faults old Work) (host.faults new Work) f → IsEvictFault host old new rest fresh f
-read-fault {H} host old new rest fresh (fault.Work count) cause = cause
-read-fault {H} host old new rest fresh (fault.Full held room) cause = absurd cause
-read-fault {H} host old new rest fresh (fault.Damaged place about) cause = cause
-
-pub read-fault-if : {T H : Type 0} (host : Ghosts H) (old new : H) (rest : DiskRest) (fresh : Bool) (r : Result T DiskFault) → IfErr r (IsReadFault (host.tells Work) (host.faults old Work) (host.faults new Work)) → IfErr r (IsEvictFault host old new rest fresh)
-read-fault-if {T} {H} host old new rest fresh (Ok x) cause = tt
-read-fault-if {T} {H} host old new rest fresh (Err f) cause = read-fault host old new rest fresh f cause
-
 -- ---- what was written
-
-pub puts-objects : {T E H : Type 0} (host : Ghosts H) (r : Result T E) (old new : H) (rest now : DiskRest) (raw : RawRecord) (count : ℕ) → OnOk r (PutsObject host old new rest now raw count) → OnOk r (disk_of host new now ≡ put (disk_of host old rest) raw.name (Some (object_in raw)))
-puts-objects {T} {E} {H} host (Ok x) old new rest now raw count is = is.objects
-puts-objects {T} {E} {H} host (Err x) old new rest now raw count is = tt
-
-pub puts-held : {T E H : Type 0} (host : Ghosts H) (r : Result T E) (old new : H) (rest now : DiskRest) (raw : RawRecord) (count : ℕ) → OnOk r (PutsObject host old new rest now raw count) → OnOk r (disk_held now ≡ disk_held rest + cond (is_some (disk_of host old rest raw.name)) 0 1)
-puts-held {T} {E} {H} host (Ok x) old new rest now raw count is = is.held
-puts-held {T} {E} {H} host (Err x) old new rest now raw count is = tt
-
-pub puts-stands : {T E H : Type 0} (host : Ghosts H) (r : Result T E) (old new : H) (rest now : DiskRest) (raw : RawRecord) (count : ℕ) → (IsTrue (host.tells Work) → OnOk r (PutsObject host old new rest now raw count)) → OnOk r (HoldsObjects host new now)
-puts-stands {T} {E} {H} host (Ok x) old new rest now raw count is = λ told. (is told).stands told
-puts-stands {T} {E} {H} host (Err x) old new rest now raw count is = tt
 
 put-fault : {H : Type 0} (host : Ghosts H) (old new : H) (rest after : DiskRest) (raw : RawRecord) (f : DiskFault) → HoldsObjects host old rest → ((objects : Objects) (queue : List ℕ) → IsDisk rest (work_of host old) objects queue → disk_of host old rest raw.name ≡ object_held (map.get objects raw.name)) → IsPutFault host old new rest after raw f
     → IsEvictFault host old new rest (cond (is_some (disk_of host old rest raw.name)) false true) f
@@ -99,23 +73,3 @@ pub put-fault-if : {T H : Type 0} (host : Ghosts H) (old new : H) (rest after : 
     → IfErr r (IsEvictFault host old new rest (cond (is_some (disk_of host old rest raw.name)) false true))
 put-fault-if {T} {H} host old new rest after raw (Ok x) stands law cause = tt
 put-fault-if {T} {H} host old new rest after raw (Err f) stands law cause = put-fault host old new rest after raw f stands law cause
-
--- an object that is written as its record, over the disk after that
-pub write-over : (c d : Core) (disk now : Disk) (s p : ℕ) (raw : RawRecord) → place_of (c.entries s).state ≡ Some p → object_in raw ≡ object_at c disk (c.entries s) p → raw.name ≡ (c.entries s).name
-    → now ≡ put disk raw.name (Some (object_in raw)) → KeepsOver c disk d (disk_with c disk s p) → KeepsOver c disk d now
-write-over c d disk now s p raw at object name is keeps = subst (λ (k : Disk). KeepsOver c disk d k)
-    (sym (is ∙ ap (λ (n : ℕ). put disk n (Some (object_in raw))) name ∙ ap (λ (x : Object). put disk (c.entries s).name (Some x)) object)) keeps
-
-pub fresh-count : (b x : Bool) → cond x false true ≡ b → cond {A = ℕ} x 0 1 ≡ cond {A = ℕ} b 1 0
-fresh-count b true e = ap (λ (z : Bool). cond {A = ℕ} z 1 0) e
-fresh-count b false e = ap (λ (z : Bool). cond {A = ℕ} z 1 0) e
-
--- ---- after a step that changes nothing that is held
-
-pub stays-keeps : {T E : Type 0} (r : Result T E) (a b c : Core) (was now : Disk) → Keeps was a b → OnOk r (KeepsOver b was c now) → OnOk r (KeepsOver a was c now)
-stays-keeps {T} {E} (Ok x) a b c was now first then = record { backed = then.backed; held = then.held ∙ first.held }
-stays-keeps {T} {E} (Err x) a b c was now first then = tt
-
-pub counts-keep : {T E : Type 0} (r : Result T E) (h x k y z : ℕ) → y ≡ z → OnOk r (h + x ≡ k + y) → OnOk r (h + x ≡ k + z)
-counts-keep {T} {E} (Ok v) h x k y z same is = omega arith
-counts-keep {T} {E} (Err v) h x k y z same is = tt

@@ -28,7 +28,7 @@ use Rattle.leaf_lambda.proofs.TranslateLaws.{Within-trans}
 use Rattle.counted_core.specs.Levels.{Stored, Levels, count_in, records_of, heap_of, sum_of}
 use Rattle.counted_core.specs.Counted.{words_of, one_if, IsSound}
 use Rattle.counted_core.specs.Dead.{outside_by, IsDead, CanGo}
-use Rattle.counted_core.specs.Steps.{changed_at, folded, given, recounted, removed, to_count, with_core, written_at, IsUncounted}
+use Rattle.counted_core.specs.Steps.{changed_at, folded, given, recounted, removed, to_count, with_core, written_at}
 use Rattle.counted_core.proofs.CameLaws.{came-sound}
 use Rattle.counted_core.proofs.FreeLaws.{removed-heap, removed-sound}
 use Rattle.counted_core.proofs.LevelLaws.{heap-same}

@@ -1,6 +1,6 @@
 -- What calls on a pager leave that free what is dead, one after another.
-use Rattle.std.proofs.Common.{◌≡◌, ◌<◌, Bool, true, false, [], IsTrue, Result, Ok, Err, refl, sym, ap, subst, ◌∙◌, arith}
-use Rattle.std.specs.Result.{OnOk, IfOk, IsErrAnd}
+use Rattle.std.proofs.Common.{◌≡◌, Bool, true, false, [], IsTrue, Result, Ok, Err, refl, sym, ap, subst, ◌∙◌, arith}
+use Rattle.std.specs.Result.{IfOk, IsErrAnd}
 use Rattle.long_names.specs.Heap.{Heap, Has}
 use Rattle.long_names.specs.Thin.{IsThinner}
 use Rattle.loom_host.specs.declared.outside.DiskFault.{DiskFault}
@@ -17,7 +17,6 @@ use Rattle.delta_counts.specs.At.{DrainsOne}
 use Rattle.delta_counts.specs.Effects.{Counts, Frees, HasSound, Keeps, Leaves, Same, StandsFor, Thinner}
 use Rattle.delta_counts.specs.declared.two_levels.TwoLevels.{TwoLevels}
 use Rattle.delta_counts.proofs.EffectLaws.{counts-frees}
-use Rattle.object_record.specs.Buffer.{HasRecord}
 use Rattle.purger.specs.Draining.{NoBodyDead, Thins}
 use Rattle.purger.specs.Freeing.{FreesAll, FreesBare, FreesDead, HasTold, KeepsAll, LeavesNamed, ThinsHeap}
 use Rattle.purger.specs.Marks.{MindsMarks}
@@ -156,16 +155,6 @@ all-free {H} {host} a b c d told x y z none = all-drained host a.levels.parts b.
     (x.keeps told) y (z.keeps told) none
 
 -- ---- from calls on parts and a disk
-
-pub thins-of : {T H : Type 0} {host : Ghosts H} (a b : Pager H host) (r : Result T DiskFault)
-    → (IsTrue (host.tells Work) → OnOk r (Thins host a.levels.parts a.levels.disk.host.now a.levels.disk.rest b.levels.parts b.levels.disk.host.now b.levels.disk.rest)) → OnOk r (MindsMarks (core_in a) (core_in b)) → OnOk r (ThinsHeap a b)
-thins-of {T} {H} {host} a b (Ok v) thins minds = record { keeps = thins; minds = minds }
-thins-of {T} {H} {host} a b (Err f) thins minds = tt
-
-pub told-of : {H : Type 0} {host : Ghosts H} (a b : Pager H host) (r : Result Bool DiskFault) → IfOk r (λ told. IsTrue told → free_of a.levels.parts.segment < free_of b.levels.parts.segment)
-    → IfOk r (λ told. IsTrue told → HasRecord b.out) → IfOk r (λ told. told ≡ false → b.out ≡ a.out) → IfOk r (HasTold a b)
-told-of {H} {host} a b (Ok v) wider there still = record { wider = wider; there = there; still = still }
-told-of {H} {host} a b (Err f) wider there still = tt
 
 -- behind a step by which no words became free
 pub told-later : {H : Type 0} {host : Ghosts H} (a b c : Pager H host) (r : Result Bool DiskFault) → b.levels.parts.segment ≡ a.levels.parts.segment → b.out ≡ a.out → IfOk r (HasTold b c) → IfOk r (HasTold a c)

@@ -1,7 +1,6 @@
 -- Entries of idle leaves that are given up: what that leaves of a core, and faults of the calls that do it.
-use Rattle.std.proofs.Common.{zero, suc, ◌≡◌, ◌≢◌, ℕ, pos, ◌<◌, ◌≤◌, Bool, true, false, refl, sym, ◌∙◌, ap, subst, arith, Option, Some, None, IsTrue, Result, Ok, Err, ⊎_elim}
+use Rattle.std.proofs.Common.{zero, suc, ◌≡◌, ℕ, ◌<◌, ◌≤◌, Bool, true, false, refl, sym, ◌∙◌, ap, subst, arith, Option, Some, None, IsTrue, Result, Ok, Err, ⊎_elim}
 use Rattle.std.specs.Result.{IfErr}
-use Rattle.std.proofs.lemmas.Bool.{cases_eq}
 use Rattle.long_names.specs.Counting.{Rose}
 use Rattle.loom_host.specs.declared.outside.DiskFault.{DiskFault}
 use Rattle.loom_host.specs.declared.outside.DiskFault.TheVariants as fault
@@ -9,7 +8,7 @@ use Rattle.loom_host.specs.declared.outside.Host.{Ghosts}
 use Rattle.loom_host.specs.declared.outside.Role.TheVariants.{Work}
 use Rattle.object_table.specs.declared.entry.Entry.{Entry}
 use Rattle.object_table.specs.declared.entry.EntryState.{EntryState}
-use Rattle.object_table.specs.Entries.{is_used, place_of, free_entry}
+use Rattle.object_table.specs.Entries.{is_used, place_of}
 use Rattle.object_table.specs.Table.{entry_at, entries_of}
 use Rattle.disk_objects.specs.declared.rest.DiskRest.{DiskRest}
 use Rattle.disk_objects.specs.Calls.{IsFault, IsSlotsFault}
@@ -29,8 +28,7 @@ use Rattle.leaf_lambda.specs.Parts.{core_of, spare_of, IsParts, IsWithin}
 use Rattle.counted_core.specs.Dead.{NoneIdle}
 use Rattle.counted_core.specs.Steps.{with_change}
 use Rattle.delta_counts.specs.Parts.{core_with}
-use Rattle.delta_counts.specs.Faults.{IsFreeFault}
-use Rattle.delta_counts.specs.Giving.{IsIdleEntry, IsGiving, NoneIdleBelow}
+use Rattle.delta_counts.specs.Giving.{IsGiving, NoneIdleBelow}
 use Rattle.delta_counts.proofs.GiveLaws.{none-idle}
 use Rattle.purger.specs.Counts.{IsGivingUp}
 use Rattle.purger.specs.Marks.{AreHere, IsUnmarking, KeepsMarks}
@@ -69,25 +67,9 @@ giving-up p q parts same g = record {
 pub giving-spare : (p q : Parts) → IsGiving p.names q.names → spare_of p ≤ spare_of q
 giving-spare p q g = g.more
 
-pub idle-entry : (p : Parts) (s : ℕ) → is_used ((core_of p).entries s).state ≡ true → place_of ((core_of p).entries s).state ≡ None → (entry_at p.names.table s).refs ≡ 0 → IsIdleEntry (entry_at p.names.table s)
-unfolding core_of
-idle-entry p s used leaf none = record { used = used; leaf = leaf; none = none }
-
 pub used-entry : (p : Parts) (s : ℕ) → is_used ((core_of p).entries s).state ≡ true → is_used (entry_at p.names.table s).state ≡ true
 unfolding core_of
 used-entry p s used = used
-
-pub gone-none : (p : Parts) (s : ℕ) → entry_at p.names.table s ≡ free_entry → is_used ((core_of p).entries s).state ≡ true → 1 ≤ ((core_of p).entries s).refs
-unfolding core_of
-gone-none p s gone on = no-both (is_used (entry_at p.names.table s).state) on (ap (λ (e : Entry). is_used e.state) gone)
-
-pub gone-change : (p : Parts) (s : ℕ) → entry_at p.names.table s ≡ free_entry → ((core_of p).entries s).change ≡ pos 0
-unfolding core_of
-gone-change p s gone = ap (λ (e : Entry). e.change) gone
-
-pub refs-still : (p q : Parts) (s : ℕ) → IsGiving p.names q.names → 1 ≤ (entry_at p.names.table s).refs → is_used ((core_of q).entries s).state ≡ true → 1 ≤ ((core_of q).entries s).refs
-unfolding core_of
-refs-still p q s g some on = ⊎_elim (λ same. subst (λ (e : Entry). 1 ≤ e.refs) (sym same) some) (λ off. no-both (is_used (entry_at q.names.table s).state) on off) (g.entries s)
 
 -- ---- the core
 
@@ -170,13 +152,6 @@ marks-stay c d core now g stays = record { marks = λ n. at n (d.find n) refl; f
 pub given-marks : (c d : Core) → IsCore c → IsCore d → IsGivingUp c d → AreHere c → KeepsMarks c d
 given-marks c d core now g here = marks-stay c d core now g (λ s used marked. let body = here s used marked in g.bodies s body.0 body.1)
 
--- where at most one entry goes, which isn't marked
-pub one-marks : (p q : Parts) (s : ℕ) → IsParts p → IsParts q → IsGivingUp (core_of p) (core_of q) → ((core_of p).entries s).flags.marked ≡ false
-    → ((r : ℕ) → r ≢ s → entry_at q.names.table r ≡ with_change (entry_at p.names.table r) (entry_at q.names.table r).change) → KeepsMarks (core_of p) (core_of q)
-unfolding core_of
-one-marks p q s parts now g off others = marks-stay (core_of p) (core_of q) parts.core now.core g
-    (λ r used marked. ⊎_elim (λ (e : r ≡ s). no-both ((core_of p).entries r).flags.marked marked (ap (λ (k : ℕ). ((core_of p).entries k).flags.marked) e ∙ off)) (λ (away : r ≢ s). others r away) (cases_eq r s))
-
 -- no leaf is idle then
 pub given-idle : (p q : Parts) → IsParts q → IsGiving p.names q.names → NoneIdleBelow (entries_of p.names.table) q.names → HasNoIdle (core_of q)
 given-idle p q parts g below s on leaf = go ((core_of q).entries s).refs refl
@@ -225,21 +200,11 @@ purge-later {H} host old mid new (fault.Work count) low x = (x.0, rose-earlier (
 purge-later {H} host old mid new (fault.Full held room) low x = x
 purge-later {H} host old mid new (fault.Damaged at about) low x = x
 
-pub purge-later-if : {T H : Type 0} (host : Ghosts H) (old mid new : H) (r : Result T DiskFault) → host.faults old Work ≤ host.faults mid Work → IfErr r (IsPurgeFault host mid new) → IfErr r (IsPurgeFault host old new)
-purge-later-if {T} {H} host old mid new (Ok v) low x = tt
-purge-later-if {T} {H} host old mid new (Err f) low x = purge-later host old mid new f low x
-
 pub read-evict : {H : Type 0} (host : Ghosts H) (old mid new : H) (rest : DiskRest) (fresh : Bool) (f : DiskFault) → host.faults old Work ≤ host.faults mid Work
     → IsReadFault (host.tells Work) (host.faults mid Work) (host.faults new Work) f → IsEvictFault host old new rest fresh f
 read-evict {H} host old mid new rest fresh (fault.Work count) low x = (x.0, rose-earlier (host.faults old Work) (host.faults mid Work) (host.faults new Work) low x.1)
 read-evict {H} host old mid new rest fresh (fault.Full held room) low x = absurd x
 read-evict {H} host old mid new rest fresh (fault.Damaged at about) low x = x
-
--- a later fault of a read is one of the whole eviction
-pub read-evict-if : {T H : Type 0} (host : Ghosts H) (old mid new : H) (rest : DiskRest) (fresh : Bool) (r : Result T DiskFault) → host.faults old Work ≤ host.faults mid Work
-    → IfErr r (IsReadFault (host.tells Work) (host.faults mid Work) (host.faults new Work)) → IfErr r (IsEvictFault host old new rest fresh)
-read-evict-if {T} {H} host old mid new rest fresh (Ok v) low x = tt
-read-evict-if {T} {H} host old mid new rest fresh (Err f) low x = read-evict host old mid new rest fresh f low x
 
 pub evict-later : {H : Type 0} (host : Ghosts H) (old mid new : H) (rest after : DiskRest) (was fresh : Bool) (f : DiskFault) → host.faults old Work ≤ host.faults mid Work → after ≡ rest → (IsTrue (host.tells Work) → was ≡ true → fresh ≡ true)
     → IsEvictFault host mid new after was f → IsEvictFault host old new rest fresh f
@@ -252,9 +217,3 @@ pub evict-later-if : {T H : Type 0} (host : Ghosts H) (old mid new : H) (rest af
     → IfErr r (IsEvictFault host mid new after was) → IfErr r (IsEvictFault host old new rest fresh)
 evict-later-if {T} {H} host old mid new rest after was fresh (Ok v) low same more x = tt
 evict-later-if {T} {H} host old mid new rest after was fresh (Err f) low same more x = evict-later host old mid new rest after was fresh f low same more x
-
--- of a freeing
-pub free-purge : {H : Type 0} (host : Ghosts H) (old mid new : H) (rest : DiskRest) (f : DiskFault) → host.faults old Work ≤ host.faults mid Work → IsFreeFault (host.tells Work) (host.faults mid Work) (host.faults new Work) rest f → IsPurgeFault host old new f
-free-purge {H} host old mid new rest (fault.Work count) low x = (x.0, rose-earlier (host.faults old Work) (host.faults mid Work) (host.faults new Work) low x.1)
-free-purge {H} host old mid new rest (fault.Full held room) low x = absurd x
-free-purge {H} host old mid new rest (fault.Damaged at about) low x = x.0

@@ -1,16 +1,16 @@
 -- Marks that go or stay. All of it is about cores alone.
-use Rattle.std.proofs.Common.{◌≡◌, ◌≢◌, ◌⊎◌, inl, inr, ℕ, ◌+◌, ◌*◌, ◌%◌, ◌<◌, Bool, true, false, refl, sym, ◌∙◌, ap, arith, Option, Some, None, count_by, ⊎_elim}
+use Rattle.std.proofs.Common.{◌≡◌, ◌≢◌, inl, inr, ℕ, ◌+◌, ◌*◌, ◌%◌, ◌<◌, Bool, true, false, refl, sym, ◌∙◌, ap, arith, Option, Some, None, ⊎_elim}
 use Rattle.std.proofs.lemmas.Bool.{cases_eq}
 use Rattle.std.proofs.lemmas.Grind.{common_steps}
 use Rattle.object_table.specs.declared.entry.Entry.{Entry}
 use Rattle.object_table.specs.Entries.{put, is_short, is_used, place_of, free_entry, sum_below}
 use Rattle.core_segment.specs.Chunks.{Chunk}
-use Rattle.core_view.specs.Core.{Core, with_entry, without_leaf}
-use Rattle.core_view.specs.Counts.{names, holders_in, holders, outside, marked_by, marked_of}
-use Rattle.core_view.specs.Kept.{IsCore, IsTight, Stays}
-use Rattle.core_view.specs.Purge.{IsPurged, IsFreed, fresh_by, fresh_of}
+use Rattle.core_view.specs.Core.{Core, without_leaf}
+use Rattle.core_view.specs.Counts.{outside, marked_by, marked_of}
+use Rattle.core_view.specs.Kept.{IsCore, IsTight}
+use Rattle.core_view.specs.Purge.{IsPurged, fresh_by, fresh_of}
 use Rattle.core_view.specs.Steps.{IsIdle, IsMove}
-use Rattle.core_view.proofs.Entries.{IsStep, at-entry, touch-step, touch-held, touch-backed, step-core, step-outside}
+use Rattle.core_view.proofs.Entries.{at-entry}
 use Rattle.core_view.proofs.Lists.{put-here, put-there}
 use Rattle.core_view.proofs.Sums.{sum-same}
 use Rattle.core_view.proofs.Tight.{owners-tight}
@@ -20,49 +20,10 @@ use Rattle.purger.specs.Marks.{AreHere, unmarked, IsUnmarking, KeepsMarks, Leave
 no-both : {A : Type 0} (b : Bool) → b ≡ true → b ≡ false → A
 no-both {A} b on off = let both : true ≡ false = sym on ∙ off in absurd (cc)
 
--- ---- one entry loses its mark
-
-step-of : (c : Core) (s : ℕ) → IsCore c → is_used (c.entries s).state ≡ true → IsStep c s (unmarked (c.entries s))
-step-of c s core used = touch-step c s (c.entries s).refs (c.entries s).change (unmarked (c.entries s)).flags core used (core.counted s)
-
-pub unmark-core : (c : Core) (s : ℕ) → IsCore c → is_used (c.entries s).state ≡ true → IsCore (with_entry c s (unmarked (c.entries s)))
-unmark-core c s core used = step-core c s (unmarked (c.entries s)) core (step-of c s core used)
-
-pub unmark-stays : (c : Core) (s : ℕ) → IsCore c → is_used (c.entries s).state ≡ true → Stays c (with_entry c s (unmarked (c.entries s)))
-unmark-stays c s core used disk backed = record {
-  backed = touch-backed c disk s (c.entries s).refs (c.entries s).change (unmarked (c.entries s)).flags core backed (step-of c s core used) (λ e. e) refl;
-  held = touch-held c disk s (c.entries s).refs (c.entries s).change (unmarked (c.entries s)).flags core (step-of c s core used);
-}
-
-pub unmark-outside : (c : Core) (s t : ℕ) → IsCore c → is_used (c.entries s).state ≡ true → outside (with_entry c s (unmarked (c.entries s))) t ≡ outside c t
-unfolding holders
-unmark-outside c s t core used =
-    let all : outside (with_entry c s (unmarked (c.entries s))) t + count_by (names t) (holders_in c.chunks (c.entries s) (place_of (c.entries s).state)) + (c.entries t).refs ≡ outside c t + count_by (names t) (holders_in c.chunks (c.entries s) (place_of (c.entries s).state)) + (put c.entries s (unmarked (c.entries s)) t).refs =
-    step-outside c s (unmarked (c.entries s)) t core (step-of c s core used) in
-    let refs : (put c.entries s (unmarked (c.entries s)) t).refs ≡ (c.entries t).refs = at-entry c.entries s (unmarked (c.entries s)) (λ q e. e.refs ≡ (c.entries q).refs) refl (λ q away. refl) t in
-    omega arith
-
-pub unmark-step : (c : Core) (s : ℕ) → IsUnmarking c (with_entry c s (unmarked (c.entries s)))
-unmark-step c s = record {
-  find = refl;
-  bound = refl;
-  chunks = refl;
-  entries = at-entry c.entries s (unmarked (c.entries s)) (λ q e. (e ≡ c.entries q) ⊎ (e ≡ unmarked (c.entries q))) (inr refl) (λ q away. inl refl);
-}
-
 -- ---- nothing but marks differs
 
 pub Unmarking-refl : (c : Core) → IsUnmarking c c
 Unmarking-refl c = record { find = refl; bound = refl; chunks = refl; entries = λ q. inl refl }
-
-pub Unmarking-trans : (a b c : Core) → IsUnmarking a b → IsUnmarking b c → IsUnmarking a c
-Unmarking-trans a b c x y = record {
-  find = y.find ∙ x.find;
-  bound = y.bound ∙ x.bound;
-  chunks = y.chunks ∙ x.chunks;
-  entries = λ q. ⊎_elim (λ same. ⊎_elim (λ was. inl (same ∙ was)) (λ was. inr (same ∙ was)) (x.entries q))
-      (λ off. inr (⊎_elim (λ was. off ∙ ap unmarked was) (λ was. off ∙ ap unmarked was) (x.entries q))) (y.entries q);
-}
 
 -- what isn't the mark
 pub unmarked-same : {A : Type 0} (c d : Core) (q : ℕ) (f : Entry → A) → IsUnmarking c d → ((e : Entry) → f (unmarked e) ≡ f e) → f (d.entries q) ≡ f (c.entries q)
@@ -70,10 +31,6 @@ unmarked-same {A} c d q f step blind = ⊎_elim (λ same. ap f same) (λ off. ap
 
 pub state-same : (c d : Core) (q : ℕ) → IsUnmarking c d → (d.entries q).state ≡ (c.entries q).state
 state-same c d q step = unmarked-same c d q (λ (e : Entry). e.state) step (λ e. refl)
-
--- what has no mark gets none
-pub unmarked-off : (c d : Core) (q : ℕ) → IsUnmarking c d → (c.entries q).flags.marked ≡ false → (d.entries q).flags.marked ≡ false
-unmarked-off c d q step off = ⊎_elim (λ same. ap (λ (e : Entry). e.flags.marked) same ∙ off) (λ none. ap (λ (e : Entry). e.flags.marked) none) (step.entries q)
 
 pub unmarked-tight : (c d : Core) → IsUnmarking c d → IsTight c → IsTight d
 unmarked-tight c d step = owners-tight c d (λ p. ap (λ (f : ℕ → Chunk). (f p).owner) step.chunks) (λ q. ap place_of (state-same c d q step))
@@ -106,13 +63,6 @@ unmarked-here c d step here s on marked =
     (body.0, ap place_of state ∙ body.1)
 
 -- ---- marks by name
-
-pub none-marked : (c : Core) → IsCore c → ((s : ℕ) → is_used (c.entries s).state ≡ true → (c.entries s).flags.marked ≡ false) → (n : ℕ) → marked_of c n ≡ false
-none-marked c core off n = go (c.find n) refl
-  where
-    go : (o : Option ℕ) → c.find n ≡ o → marked_by c.entries o ≡ false
-    go None e = refl
-    go (Some s) e = off s (core.used n s e)
 
 -- the mark of an entry in use is that of its name
 pub marked-at : (c : Core) (s : ℕ) → IsCore c → is_used (c.entries s).state ≡ true → marked_of c (c.entries s).name ≡ (c.entries s).flags.marked
@@ -182,16 +132,6 @@ move-marked c d move n = ap (λ (f : ℕ → Option ℕ). marked_by d.entries (f
 pub move-marks : (c d : Core) → IsMove c d → KeepsMarks c d
 move-marks c d move = record { marks = move-marked c d move; found = λ n on. ap (λ (f : ℕ → Option ℕ). f n) move.find }
 
-pub move-here : (c d : Core) → IsMove c d → AreHere c → AreHere d
-move-here c d move here s on marked = go (place_of (c.entries s).state) refl
-  where
-    go : (o : Option ℕ) → place_of (c.entries s).state ≡ o → (p : ℕ) × (place_of (d.entries s).state ≡ Some p)
-    go (Some p) e = let there = move.bodies s p e in (there.0, there.1)
-    go None e =
-        let state = move.leaves s e in
-        let body = here s (ap is_used (sym state) ∙ on) (ap (λ (x : Entry). x.flags.marked) (sym (move.entries s)) ∙ marked) in
-        absurd (let both : None ≡ Some body.0 = sym e ∙ body.1 in cc)
-
 -- a call on one object that isn't marked
 pub within-here : (c d : Core) (s : ℕ) → IsWithin s c d → (d.entries s).flags.marked ≡ false → AreHere c → AreHere d
 within-here c d s within off here t on marked = ⊎_elim (λ (e : t ≡ s). no-both (d.entries t).flags.marked marked (ap (λ (k : ℕ). (d.entries k).flags.marked) e ∙ off)) (λ (away : t ≢ s). go away (is_used (c.entries t).state) refl) (cases_eq t s)
@@ -211,15 +151,6 @@ odd-short s i e = let rest : s % 2 ≡ 1 = omega arith in grind (arith, common_s
 pub low-short : (s : ℕ) → s < 2 → is_short s ≡ false
 low-short s low = ⊎_elim (λ (e : s ≡ 0). ap is_short e) (λ (e : s ≢ 0). let one_ : s ≡ 1 = omega arith in ap is_short one_) (cases_eq s 0)
 
-pub off-first : (c : Core) (s : ℕ) → IsCore c → s < 2 → is_used (c.entries s).state ≡ true → (c.entries s).flags.marked ≡ false
-off-first c s core low on = no-both (is_short s) (core.short s on) (low-short s low)
-
-pub off-more : (c d : Core) (i s : ℕ) → IsCore d → IsUnmarking c d → ((s : ℕ) → s < 2 * i + 2 → is_used (c.entries s).state ≡ true → (c.entries s).flags.marked ≡ false)
-    → (is_used (d.entries (2 * i + 2)).state ≡ true → (d.entries (2 * i + 2)).flags.marked ≡ false) → s < 2 * (i + 1) + 2 → is_used (d.entries s).state ≡ true → (d.entries s).flags.marked ≡ false
-off-more c d i s core step before here low on = ⊎_elim (λ (e : s ≡ 2 * i + 2). ap (λ (k : ℕ). (d.entries k).flags.marked) e ∙ here (ap (λ (k : ℕ). is_used (d.entries k).state) (sym e) ∙ on))
-    (λ (e : s ≢ 2 * i + 2). ⊎_elim (λ (f : s ≡ 2 * i + 3). no-both (is_short s) (core.short s on) (odd-short s i f))
-    (λ (f : s ≢ 2 * i + 3). unmarked-off c d s step (before s (omega arith) (ap is_used (sym (state-same c d s step)) ∙ on))) (cases_eq s (2 * i + 3))) (cases_eq s (2 * i + 2))
-
 -- ---- all marks go
 
 pub Marks-taken : (c d : Core) (s : ℕ) → IsCore c → is_used (c.entries s).state ≡ true → (c.entries s).flags.marked ≡ true → ((n : ℕ) → marked_of d n ≡ false) → LeavesMarks c d
@@ -227,12 +158,6 @@ Marks-taken c d s core on marked none = inr (((c.entries s).name, marked-at c s 
 
 pub gone-at : (c d : Core) (s : ℕ) → IsCore d → is_used (c.entries s).state ≡ true → IsUnmarking c d → ((n : ℕ) → marked_of d n ≡ false) → (d.entries s).flags.marked ≡ false
 gone-at c d s core on step none = sym (marked-at d s core (ap is_used (state-same c d s step) ∙ on)) ∙ none (d.entries s).name
-
-pub freed-here : (c d : Core) → IsFreed c d → AreHere c → AreHere d
-freed-here c d freed here s on marked =
-    let same = freed.same s on in
-    let body = here s (ap (λ (e : Entry). is_used e.state) (sym same) ∙ on) (ap (λ (e : Entry). e.flags.marked) (sym same) ∙ marked) in
-    (body.0, ap (λ (e : Entry). place_of e.state) same ∙ body.1)
 
 -- a call on an object that is in the core afterwards
 pub within-body : (c d : Core) (s p : ℕ) → IsWithin s c d → place_of (d.entries s).state ≡ Some p → AreHere c → AreHere d

@@ -25,9 +25,6 @@ pub record WasThere (c : Core) (s n : ℕ) : Type 0 where
 abbrev pub NoneCame : Core → Core → Type 0
 NoneCame c d = (s p : ℕ) → place_of (d.entries s).state ≡ Some p → WasThere c s (d.entries s).name
 
-pub came-refl : (c : Core) → NoneCame c c
-came-refl c s p at = record { at = p; place = at; name = refl }
-
 pub came-trans : (a b c : Core) → NoneCame a b → NoneCame b c → NoneCame a c
 came-trans a b c x y s p at =
     let later = y s p at in

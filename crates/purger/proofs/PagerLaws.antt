@@ -1,10 +1,10 @@
 -- What calls on a pager leave, one after another.
-use Rattle.std.proofs.Common.{◌≡◌, inl, inr, ℕ, ◌+◌, ◌*◌, ◌<◌, ◌≤◌, IsTrue, Result, Ok, Err, true, false, [], Option, Some, None, is_some, refl, sym, ap, subst, ◌∙◌, arith, pos, ⊎_elim}
+use Rattle.std.proofs.Common.{◌≡◌, inl, inr, ℕ, ◌+◌, ◌*◌, ◌<◌, IsTrue, Result, Ok, Err, true, [], Option, Some, is_some, refl, sym, ap, subst, ◌∙◌, arith, ⊎_elim}
 use Rattle.std.specs.Result.{OnOk, IsErrAnd}
 use Rattle.loom_host.specs.declared.outside.DiskFault.{DiskFault}
 use Rattle.loom_host.specs.declared.outside.Host.{Ghosts}
 use Rattle.loom_host.specs.declared.outside.Role.TheVariants.{Work}
-use Rattle.object_table.specs.Entries.{is_used, place_of}
+use Rattle.object_table.specs.Entries.{place_of}
 use Rattle.object_table.specs.Table.{entries_of}
 use Rattle.disk_objects.proofs.StayLaws.{stays-refl, stays-trans}
 use Rattle.core_segment.specs.Segment.{free_of, size_of}
@@ -24,10 +24,10 @@ use Rattle.delta_counts.specs.Giving.{NoneIdleBelow}
 use Rattle.delta_counts.specs.declared.two_levels.TwoLevels.{TwoLevels}
 use Rattle.delta_counts.proofs.EffectLaws.{keeps-refl, keeps-then, sound-after}
 use Rattle.purger.specs.Counts.{IsGivingUp, KeepsSound}
-use Rattle.purger.specs.Marks.{AreHere, KeepsMarks, MindsMarks}
+use Rattle.purger.specs.Marks.{AreHere, KeepsMarks}
 use Rattle.purger.specs.Purge.{IsPurgeFault, KeepsBodies}
 use Rattle.purger.specs.Rounds.{KeepsAllBut}
-use Rattle.purger.specs.Pager.{core_in, Clears, HasLeft, IsReady, Moves, Preserves, Purges, Spares}
+use Rattle.purger.specs.Pager.{core_in, Clears, IsReady, Moves, Preserves, Purges, Spares}
 use Rattle.purger.specs.declared.pager.Pager.{Pager}
 use Rattle.purger.specs.declared.room.Pinned.{Pinned}
 use Rattle.purger.specs.declared.room.RoomFault.{RoomFault}
@@ -36,7 +36,7 @@ use Rattle.purger.proofs.GivingLaws.{given-idle, given-marks, given-purged, givi
 use Rattle.purger.proofs.MarkLaws.{Kept-refl, Kept-trans, Marks-same, Marks-trans, move-marks}
 use Rattle.purger.proofs.MindLaws.{minds-kept, minds-refl, minds-trans, purged-came}
 use Rattle.purger.proofs.NamingLaws.{Counts-refl, Counts-trans, move-counts}
-use Rattle.purger.proofs.OnlyLaws.{less-refl, less-same, less-trans, only-all, only-gone, only-refl, only-trans}
+use Rattle.purger.proofs.OnlyLaws.{less-refl, less-same, less-trans, only-all, only-refl, only-trans}
 use Rattle.purger.proofs.RoomLaws.{all-pinned, bound-entries, disk-later, some-of, undisturbed-map}
 use Rattle.purger.proofs.SoundLaws.{has-number, quiet-keeps}
 
@@ -249,23 +249,6 @@ counts-purges {T} {H} {host} a b (Err f) pinned x = record {
 }
 
 -- ---- one object leaves
-
-pub evicted-preserves : {T H : Type 0} {host : Ghosts H} (a b : Pager H host) (s : ℕ) (r : Result T DiskFault)
-    → (IsTrue (host.tells Work) → OnOk r (KeepsSound host a.levels.parts a.levels.disk.host.now a.levels.disk.rest b.levels.parts b.levels.disk.host.now b.levels.disk.rest)) → OnOk r (MindsMarks (core_in a) (core_in b))
-    → OnOk r (place_of ((core_in b).entries s).state ≡ None) → OnOk r (free_of a.levels.parts.segment < free_of b.levels.parts.segment) → spare_of a.levels.parts ≤ spare_of b.levels.parts
-    → ((p q k : ℕ) → is_among p q k s ≡ false → IsPurged p q k (core_in a) (core_in b)) → OnOk r (Preserves a b)
-evicted-preserves {T} {H} {host} a b s (Ok v) sound minds gone wider spare purged = record {
-  keeps = keeps-of a.levels b.levels sound;
-  minds = minds;
-  only = only-gone s (core_in a) (core_in b) purged gone;
-  less = record { words = omega arith; entries = spare };
-}
-evicted-preserves {T} {H} {host} a b s (Err f) sound minds gone wider spare purged = tt
-
-pub evicted-left : {T H : Type 0} {host : Ghosts H} (p : Pager H host) (s : ℕ) (r : Result T DiskFault) → OnOk r (place_of ((core_in p).entries s).state ≡ None)
-    → OnOk r (is_used ((core_in p).entries s).state ≡ true → 1 ≤ ((core_in p).entries s).refs) → (IsTrue (host.tells Work) → OnOk r (((core_in p).entries s).change ≡ pos 0)) → OnOk r (HasLeft s p)
-evicted-left {T} {H} {host} p s (Ok v) gone none folded = record { gone = gone; none = none; folded = folded }
-evicted-left {T} {H} {host} p s (Err f) gone none folded = tt
 
 pub one-then : (s : ℕ) (a b c : Core) → KeepsAllBut s a b → KeepsBodies b c → KeepsAllBut s a c
 one-then s a b c one keeps t p at = ⊎_elim (λ (e : t ≡ s). inl e) (λ (same : IsSameBody a b t p). inr (body-then a b c t p same (keeps t same.at same.place))) (one t p at)

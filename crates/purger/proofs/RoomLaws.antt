@@ -1,37 +1,28 @@
 -- What making room puts together.
-use Rattle.std.proofs.Common.{◌≡◌, ℕ, ◌+◌, ◌≤◌, IsTrue, Result, Ok, Err, Bool, true, false, refl, sym, ◌∙◌, ap, arith, Option, Some, None, is_some}
+use Rattle.std.proofs.Common.{◌≡◌, ℕ, ◌+◌, ◌≤◌, IsTrue, Result, Ok, Err, Bool, true, false, refl, sym, ◌∙◌, arith, Option, Some, None, is_some}
 use Rattle.std.proofs.lemmas.Grind.{common_steps}
 use Rattle.std.specs.Result.{IfErr}
 use Rattle.loom_host.specs.declared.outside.DiskFault.{DiskFault}
 use Rattle.loom_host.specs.declared.outside.DiskFault.TheVariants as fault
 use Rattle.loom_host.specs.declared.outside.Host.{Ghosts}
 use Rattle.loom_host.specs.declared.outside.Role.TheVariants.{Work}
-use Rattle.loom_host.specs.Outside.{RoleState, holds}
 use Rattle.loom_host.specs.Work.{IsWorkOnly}
-use Rattle.object_table.specs.declared.entry.Entry.{Entry}
 use Rattle.object_table.specs.Entries.{is_used, place_of}
 use Rattle.object_table.specs.Table.{entries_of}
 use Rattle.disk_objects.specs.declared.rest.DiskRest.{DiskRest}
-use Rattle.disk_objects.specs.Calls.{HoldsObjects}
 use Rattle.disk_objects.specs.Disk.{disk_held, disk_room}
 use Rattle.core_view.specs.Core.{Core}
-use Rattle.core_view.specs.Held.{Disk as Store}
-use Rattle.core_view.specs.Kept.{IsCore, IsBacked, KeepsOver}
+use Rattle.core_view.specs.Kept.{IsCore}
 use Rattle.core_view.specs.Purge.{IsPurged, fresh_of}
 use Rattle.core_view.specs.Room.{is_among}
 use Rattle.core_view.proofs.Core.{placed-used}
 use Rattle.core_view.proofs.Purge.{fresh-least}
 use Rattle.leaf_lambda.specs.declared.parts.Parts.{Parts}
 use Rattle.leaf_lambda.specs.Parts.{core_of}
-use Rattle.purger.specs.Counts.{HasSound, KeepsSound}
 use Rattle.purger.specs.Purge.{IsEvictFault, IsPurgeFault, KeepsBodies, OnDisk, Undisturbed}
 use Rattle.purger.specs.declared.room.RoomFault.{RoomFault}
 use Rattle.purger.specs.declared.room.RoomFault.TheVariants.{Short, Disk}
 use Rattle.purger.proofs.GivingLaws.{purge-later}
-use Rattle.purger.proofs.SoundLaws.{has-after, has-objects}
-
-pub over-refl : (c : Core) (disk : Store) → IsBacked c disk → KeepsOver c disk c disk
-over-refl c disk backed = record { backed = backed; held = refl }
 
 pub purge-fault : {H : Type 0} (host : Ghosts H) (old new : H) (rest : DiskRest) (c : Core) (s p : ℕ) (f : DiskFault) → IsCore c → place_of (c.entries s).state ≡ Some p → (IsTrue (host.tells Work) → disk_held rest + fresh_of c ≤ disk_room rest)
     → IsEvictFault host old new rest (c.entries s).flags.fresh f → IsPurgeFault host old new f
@@ -43,18 +34,7 @@ purge-fault {H} host old new rest c s p (fault.Full held room) core at counted c
     absurd (omega arith)
 purge-fault {H} host old new rest c s p (fault.Damaged place about) core at counted cause = cause
 
-pub purge-fault-if : {T H : Type 0} (host : Ghosts H) (r : Result T DiskFault) (old new : H) (rest : DiskRest) (c : Core) (s p : ℕ) → IsCore c → place_of (c.entries s).state ≡ Some p → (IsTrue (host.tells Work) → disk_held rest + fresh_of c ≤ disk_room rest)
-    → IfErr r (IsEvictFault host old new rest (c.entries s).flags.fresh) → IfErr r (IsPurgeFault host old new)
-purge-fault-if {T} {H} host (Ok x) old new rest c s p core at counted cause = tt
-purge-fault-if {T} {H} host (Err f) old new rest c s p core at counted cause = purge-fault host old new rest c s p f core at counted cause
-
 -- ---- tests
-
-pub off-on : (e f : Entry) (b : Bool) → e ≡ f → b ≡ is_used e.state → b ≡ false → is_used f.state ≡ true → ⊥
-off-on e f b same is no_ on = let both : true ≡ false = sym on ∙ ap (λ (x : Entry). is_used x.state) (sym same) ∙ sym is ∙ no_ in cc
-
-pub some-none : (o : Option ℕ) (b : Bool) → b ≡ is_some o → b ≡ true → o ≡ None → ⊥
-some-none o b is yes_ none = let both : true ≡ false = sym yes_ ∙ is ∙ ap is_some none in cc
 
 pub none-of : (o : Option ℕ) (b : Bool) → b ≡ is_some o → b ≡ false → o ≡ None
 none-of None b is no_ = refl
@@ -72,15 +52,6 @@ bound-entries p q same = omega arith
 
 pub work-refl : {H : Type 0} (host : Ghosts H) (now : H) → IsWorkOnly host now now
 work-refl {H} host now = record { others = λ role away. refl; work = λ told. refl; other_faults = λ role away. refl; later = omega arith; writes = omega arith }
-
-pub work-trans : {H : Type 0} (host : Ghosts H) (a b c : H) → IsWorkOnly host a b → IsWorkOnly host b c → IsWorkOnly host a c
-work-trans {H} host a b c x y = record {
-  others = λ r away. y.others r away ∙ x.others r away;
-  work = λ told. y.work told ∙ ap (λ (s : RoleState). holds (host.roles c Work).contents s) (x.work told);
-  other_faults = λ r away. y.other_faults r away ∙ x.other_faults r away;
-  later = let first = x.later in let then = y.later in omega arith;
-  writes = let first = x.writes in let then = y.writes in omega arith;
-}
 
 -- ---- where no body goes
 
@@ -110,16 +81,6 @@ pub undisturbed-map : {T : Type 0} (r : Result T RoomFault) {A B : Type 0} → (
 undisturbed-map {T} (Ok v) f x = f x
 undisturbed-map {T} (Err Short) f x = f x
 undisturbed-map {T} (Err (Disk e)) f x = tt
-
-pub undisturbed-of : {T : Type 0} (r : Result T RoomFault) {A : Type 0} → A → Undisturbed r A
-undisturbed-of {T} (Ok v) x = x
-undisturbed-of {T} (Err Short) x = x
-undisturbed-of {T} (Err (Disk e)) x = tt
-
-pub stands-undisturbed : {T H : Type 0} (host : Ghosts H) (r : Result T RoomFault) (p q : Parts) (was now : H) (before rest : DiskRest) → HasSound host p was before → (IsTrue (host.tells Work) → Undisturbed r (KeepsSound host p was before q now rest)) → Undisturbed r (HoldsObjects host now rest)
-stands-undisturbed {T} {H} host (Ok v) p q was now before rest has f = has-objects host q now rest (has-after host p q was now before rest has f)
-stands-undisturbed {T} {H} host (Err Short) p q was now before rest has f = has-objects host q now rest (has-after host p q was now before rest has f)
-stands-undisturbed {T} {H} host (Err (Disk e)) p q was now before rest has f = tt
 
 disk-once : {H : Type 0} (host : Ghosts H) (old mid new : H) (f : RoomFault) → host.faults old Work ≤ host.faults mid Work → OnDisk f (IsPurgeFault host mid new) → OnDisk f (IsPurgeFault host old new)
 disk-once {H} host old mid new Short low x = tt

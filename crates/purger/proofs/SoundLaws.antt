@@ -1,7 +1,6 @@
 -- Sound levels that are reached where objects leave a core, and what follows of the held heap and of how many objects there are.
-use Rattle.std.proofs.Common.{◌≡◌, ℕ, pos, ◌+◌, true, Option, Some, None, [], List, IsTrue, Result, Ok, Err, refl, sym, ◌∙◌, ap, ap₂, subst}
+use Rattle.std.proofs.Common.{◌≡◌, ℕ, ◌+◌, Option, Some, None, [], List, IsTrue, refl, sym, ◌∙◌, ap, ap₂, subst}
 use Rattle.std.proofs.Math.Path.{fun_ext}
-use Rattle.std.specs.Result.{OnOk}
 use Rattle.std.specs.FinMap as map
 use Rattle.std.specs.Prelude.{option_map}
 use Rattle.long_names.specs.declared.object.Object.{Object}
@@ -12,36 +11,30 @@ use Rattle.loom_host.specs.Work.{work_of, IsWorkRead}
 use Rattle.loom_host.proofs.WorkLaws.{work-same}
 use Rattle.object_record.specs.Raw.{RawRecord}
 use Rattle.object_record.specs.Objects.{object_in}
-use Rattle.object_table.specs.Entries.{put, is_used, place_of}
+use Rattle.object_table.specs.Entries.{put, place_of}
 use Rattle.disk_objects.specs.declared.rest.DiskRest.{DiskRest}
 use Rattle.disk_objects.specs.Disk.{DiskObject, IsDisk, disk_held, object_of}
 use Rattle.disk_objects.specs.Calls.{HoldsObjects}
 use Rattle.disk_objects.specs.Function.{disk_of}
 use Rattle.core_segment.specs.declared.segment.Segment.{Segment}
-use Rattle.core_segment.specs.Chunks.{Chunk}
 use Rattle.core_segment.specs.Segment.{chunk_at}
-use Rattle.object_table.specs.declared.entry.Entry.{Entry}
 use Rattle.core_view.specs.Core.{Core, with_entry}
 use Rattle.core_view.specs.Held.{Disk, held, object_at}
 use Rattle.core_view.specs.Kept.{IsCore, IsBacked, Keeps, KeepsOver, Stays}
 use Rattle.core_view.specs.Purge.{fresh_of}
 use Rattle.core_view.specs.Steps.{written}
-use Rattle.core_view.proofs.Lists.{put-here}
 use Rattle.leaf_lambda.specs.declared.parts.Parts.{Parts}
 use Rattle.leaf_lambda.specs.Parts.{core_of, IsParts}
 use Rattle.counted_core.specs.Levels.{Stored, Levels, count_in, records_of, heap_of}
 use Rattle.counted_core.specs.Counted.{IsSound}
-use Rattle.counted_core.specs.Steps.{folded, with_change, with_core, written_at, IsUncounted}
+use Rattle.counted_core.specs.Steps.{with_core, written_at, IsUncounted}
 use Rattle.counted_core.proofs.CameLaws.{came-sound}
-use Rattle.counted_core.proofs.ChangeLaws.{folded-sound, folded-heap}
 use Rattle.counted_core.proofs.LevelLaws.{heap-same}
 use Rattle.counted_core.proofs.StoreLaws.{written-sound}
 use Rattle.delta_counts.specs.Parts.{core_with, IsNames}
-use Rattle.delta_counts.specs.At.{stored_of, AtSome, CanFold, IsFolded, IsStoredIn, IsStoredAt, IsAt, IsReached}
-use Rattle.delta_counts.proofs.GiveLaws.{leaf-can, leaf-stored}
+use Rattle.delta_counts.specs.At.{stored_of, IsStoredIn, IsStoredAt, IsReached}
 use Rattle.delta_counts.proofs.NumberLaws.{held-on_disk}
 use Rattle.delta_counts.proofs.StoredLaws.{insert-same, records-at}
-use Rattle.delta_counts.proofs.WordLaws.{reached-then}
 use Rattle.purger.specs.Counts.{StandsFor, HasSound, KeepsCounts, KeepsSound, stored_as}
 use Rattle.purger.specs.Marks.{IsUnmarking}
 use Rattle.purger.proofs.NamingLaws.{counts-free, unmarking-counts}
@@ -77,20 +70,6 @@ has-objects host p now rest has told = let x = has told in (x.1.disk.objects, x.
 
 -- ---- what is reached
 
-pub sound-refl : {H : Type 0} (host : Ghosts H) (p : Parts) (now : H) (rest : DiskRest) → KeepsSound host p now rest p now rest
-sound-refl host p now rest t at x = record { levels = t; at = at; sound = x; heap = refl }
-
-pub sound-trans : {H : Type 0} (host : Ghosts H) (a b c : Parts) (x y z : H) (k l m : DiskRest) → KeepsSound host a x k b y l → KeepsSound host b y l c z m → KeepsSound host a x k c z m
-sound-trans host a b c x y z k l m f g t at s =
-    let r = f t at s in
-    reached-then host (chunk_at c.segment) c.names z m t r.levels [] r.heap (g r.levels r.at r.sound)
-
-pub has-after : {H : Type 0} (host : Ghosts H) (a b : Parts) (x y : H) (k l : DiskRest) → HasSound host a x k → (IsTrue (host.tells Work) → KeepsSound host a x k b y l) → HasSound host b y l
-has-after host a b x y k l has f told =
-    let h = has told in
-    let r = f told h.0 h.1 h.2 in
-    (r.levels, r.at, r.sound)
-
 -- a step on the core alone
 pub core-sound : {H : Type 0} (host : Ghosts H) (p q : Parts) (now : H) (rest : DiskRest) → IsCore (core_of q) → Stays (core_of p) (core_of q) → IsUncounted (core_of p) (core_of q) → KeepsSound host p now rest q now rest
 core-sound host p q now rest core stays free t at x = record {
@@ -106,16 +85,6 @@ core-sound host p q now rest core stays free t at x = record {
     keeps : Keeps (records_of t) t.core (core_of q)
     keeps = subst (λ (c : Core). Keeps (records_of t) c (core_of q)) is (stays (records_of t) (subst (λ (c : Core). IsBacked c (records_of t)) (sym is) x.backed))
 
--- a call of delta_counts, which leaves the segment alone
-pub names-sound : {H : Type 0} (host : Ghosts H) (p q : Parts) (was now : H) (before rest : DiskRest) → q.segment ≡ p.segment
-    → ((chunks : ℕ → Chunk) (t : Levels) → IsAt host chunks p.names was before t → IsSound t [] → IsReached host chunks q.names now rest t []) → KeepsSound host p was before q now rest
-names-sound host p q was now before rest same f t at x = subst (λ (g : Segment). IsReached host (chunk_at g) q.names now rest t []) (sym same) (f (chunk_at p.segment) t at x)
-
-pub names-ok : {T E H : Type 0} (host : Ghosts H) (r : Result T E) (p q : Parts) (was now : H) (before rest : DiskRest) → q.segment ≡ p.segment
-    → ((chunks : ℕ → Chunk) (t : Levels) → IsAt host chunks p.names was before t → IsSound t [] → OnOk r (IsReached host chunks q.names now rest t [])) → OnOk r (KeepsSound host p was before q now rest)
-names-ok {T} {E} {H} host (Ok v) p q was now before rest same f = names-sound host p q was now before rest same f
-names-ok {T} {E} {H} host (Err e) p q was now before rest same f = tt
-
 -- all marks go
 pub unmarked-sound : {H : Type 0} (host : Ghosts H) (p q : Parts) (now : H) (rest : DiskRest) → IsParts q → Stays (core_of p) (core_of q) → IsUnmarking (core_of p) (core_of q) → KeepsSound host p now rest q now rest
 unmarked-sound host p q now rest parts stays step = core-sound host p q now rest parts.core stays (counts-free (core_of p) (core_of q) (unmarking-counts (core_of p) (core_of q) step))
@@ -123,34 +92,6 @@ unmarked-sound host p q now rest parts stays step = core-sound host p q now rest
 -- no name gains or loses its entry
 pub quiet-keeps : {H : Type 0} (host : Ghosts H) (p q : Parts) (now : H) (rest : DiskRest) → IsParts q → Stays (core_of p) (core_of q) → KeepsCounts (core_of p) (core_of q) → KeepsSound host p now rest q now rest
 quiet-keeps host p q now rest parts stays same = core-sound host p q now rest parts.core stays (counts-free (core_of p) (core_of q) same)
-
--- the change of a leaf may be folded
-pub fold-can : {H : Type 0} (host : Ghosts H) (p : Parts) (now : H) (rest : DiskRest) (s : ℕ) → is_used ((core_of p).entries s).state ≡ true → place_of ((core_of p).entries s).state ≡ None → HasSound host p now rest → AtSome host p.names now rest (CanFold s)
-fold-can host p now rest s used leaf has told =
-    let x = has told in
-    let is = core-at host p now rest x.0 x.1 in
-    (chunk_at p.segment, x.0, x.1, leaf-can x.0 s x.2 (ap (λ (c : Core). is_used (c.entries s).state) (sym is) ∙ used) (ap (λ (c : Core). place_of (c.entries s).state) (sym is) ∙ leaf))
-
--- and is
-pub folded-sound-at : {H : Type 0} (host : Ghosts H) (p q : Parts) (was now : H) (before rest : DiskRest) (s k : ℕ) → q.segment ≡ p.segment → is_used ((core_of p).entries s).state ≡ true → place_of ((core_of p).entries s).state ≡ None
-    → ((chunks : ℕ → Chunk) (t : Levels) → IsAt host chunks p.names was before t → CanFold s t → IsFolded host chunks q.names now rest t s k) → KeepsSound host p was before q now rest
-folded-sound-at host p q was now before rest s k same used leaf f t at x =
-    let is = core-at host p was before t at in
-    let on = ap (λ (c : Core). is_used (c.entries s).state) (sym is) ∙ used in
-    let bare = ap (λ (c : Core). place_of (c.entries s).state) (sym is) ∙ leaf in
-    let r = leaf-stored t s x on bare in
-    let y = f (chunk_at p.segment) t at (leaf-can t s x on bare) in
-    subst (λ (g : Segment). IsReached host (chunk_at g) q.names now rest t []) (sym same)
-    (record { levels = folded t s; at = y.at; sound = folded-sound t s r.0 [] x on r.1; heap = folded-heap t s x.core on })
-
--- and is 0 then
-pub folded-none : {H : Type 0} (host : Ghosts H) (p q : Parts) (was now : H) (before rest : DiskRest) (s k : ℕ) → q.segment ≡ p.segment → is_used ((core_of p).entries s).state ≡ true → place_of ((core_of p).entries s).state ≡ None → HasSound host p was before → IsTrue (host.tells Work)
-    → ((chunks : ℕ → Chunk) (t : Levels) → IsAt host chunks p.names was before t → CanFold s t → IsFolded host chunks q.names now rest t s k) → ((core_of q).entries s).change ≡ pos 0
-folded-none host p q was now before rest s k same used leaf has told f =
-    let x = has told in
-    let is = core-at host p was before x.0 x.1 in
-    let y = f (chunk_at p.segment) x.0 x.1 (leaf-can x.0 s x.2 (ap (λ (c : Core). is_used (c.entries s).state) (sym is) ∙ used) (ap (λ (c : Core). place_of (c.entries s).state) (sym is) ∙ leaf)) in
-    ap (λ (c : Core). (c.entries s).change) (sym (core-over p q same) ∙ y.at.core) ∙ ap (λ (e : Entry). e.change) (put-here x.0.core.entries s (with_change (x.0.core.entries s) (pos 0)))
 
 -- ---- what follows
 
@@ -183,10 +124,6 @@ has-over host p q was now before rest has told f = let x = has told in sound-ove
 pub has-number : {H : Type 0} (host : Ghosts H) (p q : Parts) (was now : H) (before rest : DiskRest) → HasSound host p was before → IsTrue (host.tells Work) → KeepsSound host p was before q now rest
     → disk_held rest + fresh_of (core_of q) ≡ disk_held before + fresh_of (core_of p)
 has-number host p q was now before rest has told f = let x = has told in sound-number host p q was now before rest f x.0 x.1 x.2
-
-pub stands-ok : {T E H : Type 0} (host : Ghosts H) (r : Result T E) (p q : Parts) (was now : H) (before rest : DiskRest) → HasSound host p was before → (IsTrue (host.tells Work) → OnOk r (KeepsSound host p was before q now rest)) → OnOk r (HoldsObjects host now rest)
-stands-ok {T} {E} {H} host (Ok v) p q was now before rest has f = has-objects host q now rest (has-after host p q was now before rest has f)
-stands-ok {T} {E} {H} host (Err e) p q was now before rest has f = tt
 
 -- ---- an object is written as its record
 

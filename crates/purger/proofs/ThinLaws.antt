@@ -1,6 +1,5 @@
 -- Thinner heaps that are reached one after another, and what is left of parts.
-use Rattle.std.proofs.Common.{zero, suc, ◌≡◌, ℕ, ◌+◌, ◌≤◌, Bool, true, false, [], Option, Some, None, IsTrue, Result, Ok, Err, refl, sym, ◌∙◌, ap, subst, arith, is_some}
-use Rattle.std.specs.Result.{IfOk, OnOk}
+use Rattle.std.proofs.Common.{zero, suc, ◌≡◌, ℕ, ◌+◌, ◌≤◌, true, false, [], Option, Some, None, IsTrue, refl, sym, ◌∙◌, ap, subst, arith, is_some}
 use Rattle.long_names.specs.declared.object.Object.{Object}
 use Rattle.long_names.specs.Heap.{Heap, Has, object_count, count_of}
 use Rattle.long_names.specs.Thin.{IsThinner}
@@ -13,8 +12,6 @@ use Rattle.object_table.specs.Entries.{place_of}
 use Rattle.object_table.specs.Table.{entries_of}
 use Rattle.disk_objects.specs.declared.rest.DiskRest.{DiskRest}
 use Rattle.disk_objects.specs.Disk.{disk_held}
-use Rattle.core_segment.specs.declared.segment.Segment.{Segment}
-use Rattle.core_segment.specs.Chunks.{Chunk}
 use Rattle.core_segment.specs.Segment.{chunk_at, free_of, size_of}
 use Rattle.core_view.specs.Core.{Core}
 use Rattle.core_view.specs.Counts.{outside}
@@ -26,9 +23,8 @@ use Rattle.leaf_lambda.specs.Parts.{core_of, spare_of, IsParts}
 use Rattle.counted_core.specs.Levels.{Levels, heap_of}
 use Rattle.counted_core.specs.Counted.{IsSound}
 use Rattle.counted_core.specs.Dead.{IsDead, NoneBareDead, NoneDead, bare_by, outside_by}
-use Rattle.delta_counts.specs.At.{Drains, DrainsOne, IsAt, IsReached}
+use Rattle.delta_counts.specs.At.{IsReached}
 use Rattle.delta_counts.specs.Giving.{IsGiving}
-use Rattle.delta_counts.proofs.DrainLaws.{first-none, first-one}
 use Rattle.delta_counts.proofs.NumberLaws.{held-on_disk}
 use Rattle.purger.specs.Counts.{HasSound, StandsFor}
 use Rattle.purger.specs.Draining.{AreNamed, DrainsBare, DrainsDead, IsThinned, KeepsHeld, KeepsLevels, LeavesRest, NoBodyDead, Thins}
@@ -154,17 +150,6 @@ thinned-then host a b c y z l m t r w = record {
 pub thinned-trans : {H : Type 0} (host : Ghosts H) (a b c : Parts) (x y z : H) (k l m : DiskRest) → Thins host a x k b y l → Thins host b y l c z m → Thins host a x k c z m
 thinned-trans host a b c x y z k l m f g t at s = let r = f t at s in thinned-then host a b c y z l m t r (g r.levels r.at r.sound)
 
--- the same heap, and all bodies stay
-pub same-thinned : {H : Type 0} (host : Ghosts H) (p q : Parts) (now : H) (rest : DiskRest) (t : Levels) → KeepsBodies (core_of p) (core_of q) → MindsMarks (core_of p) (core_of q) → IsReached host (chunk_at q.segment) q.names now rest t [] → IsThinned host p q now rest t
-same-thinned host p q now rest t bodies minds r = record {
-  levels = r.levels;
-  at = r.at;
-  sound = r.sound;
-  thinner = subst (λ h. IsThinner (heap_of t) h) (sym r.heap) (IsThinner-refl (heap_of t));
-  bodies = λ s a there has. bodies s a there;
-  minds = minds;
-}
-
 -- and then a thinner one
 pub same-then : {H : Type 0} (host : Ghosts H) (a b c : Parts) (y z : H) (l m : DiskRest) (t : Levels) → KeepsBodies (core_of a) (core_of b) → MindsMarks (core_of a) (core_of c) → (r : IsReached host (chunk_at b.segment) b.names y l t []) → IsThinned host b c z m r.levels → IsThinned host a c z m t
 same-then host a b c y z l m t bodies minds r w = record {
@@ -207,73 +192,6 @@ thinned-has host p q was now before rest has f told =
     let x = has told in
     let r = f told x.0 x.1 x.2 in
     (r.levels, r.at, r.sound)
-
--- ---- one name is freed, or none without a body is dead
-
-pub one-thinned : {H : Type 0} (host : Ghosts H) (p q : Parts) (was now : H) (before rest : DiskRest) (b : Bool) → IsParts p → AreHere (core_of p) → q.segment ≡ p.segment → IsGiving p.names q.names
-    → ((chunks : ℕ → Chunk) (t : Levels) → IsAt host chunks p.names was before t → IsSound t [] → DrainsOne host chunks q.names now rest t b) → Thins host p was before q now rest
-one-thinned host p q was now before rest true parts here same g f t at x =
-    let d = f (chunk_at p.segment) t at x in
-    record {
-      levels = d.levels;
-      at = subst (λ (k : Segment). IsAt host (chunk_at k) q.names now rest d.levels) (sym same) d.at;
-      sound = d.sound;
-      thinner = d.thinner;
-      bodies = λ s a there has. giving-bodies p q parts same g s a there;
-      minds = giving-minds p q parts here same g;
-    }
-one-thinned host p q was now before rest false parts here same g f t at x =
-    let d = f (chunk_at p.segment) t at x in
-    same-thinned host p q now rest t (giving-bodies p q parts same g) (giving-minds p q parts here same g) (record {
-      levels = d.0.levels;
-      at = subst (λ (k : Segment). IsAt host (chunk_at k) q.names now rest d.0.levels) (sym same) d.0.at;
-      sound = d.0.sound;
-      heap = d.0.heap;
-    })
-
--- entries are given up
-pub given-thins : {H : Type 0} (host : Ghosts H) (p q : Parts) (was now : H) (before rest : DiskRest) → IsParts p → AreHere (core_of p) → q.segment ≡ p.segment → IsGiving p.names q.names
-    → ((chunks : ℕ → Chunk) (t : Levels) → IsAt host chunks p.names was before t → IsSound t [] → IsReached host chunks q.names now rest t []) → Thins host p was before q now rest
-given-thins host p q was now before rest parts here same g f t at x =
-    let d = f (chunk_at p.segment) t at x in
-    same-thinned host p q now rest t (giving-bodies p q parts same g) (giving-minds p q parts here same g) (record {
-      levels = d.levels;
-      at = subst (λ (k : Segment). IsAt host (chunk_at k) q.names now rest d.levels) (sym same) d.at;
-      sound = d.sound;
-      heap = d.heap;
-    })
-
--- a name that was pending is freed, or none was
-drains-thins : {H : Type 0} (host : Ghosts H) (p q : Parts) (was now : H) (before rest : DiskRest) (b : Bool) → IsParts p → AreHere (core_of p) → q.segment ≡ p.segment → IsGiving p.names q.names
-    → ((chunks : ℕ → Chunk) (t : Levels) → IsAt host chunks p.names was before t → IsSound t [] → Drains host chunks q.names now rest t b) → Thins host p was before q now rest
-drains-thins host p q was now before rest true parts here same g f = one-thinned host p q was now before rest true parts here same g (λ chunks t at x. first-one host chunks q.names now rest t true x refl (f chunks t at x))
-drains-thins host p q was now before rest false parts here same g f = given-thins host p q was now before rest parts here same g (λ chunks t at x. record { levels = t; at = first-none host chunks q.names now rest t false refl (f chunks t at x); sound = x; heap = refl })
-
-pub drains-thins-if : {E H : Type 0} (host : Ghosts H) (r : Result Bool E) (p q : Parts) (was now : H) (before rest : DiskRest) → IsParts p → AreHere (core_of p) → q.segment ≡ p.segment → IsGiving p.names q.names
-    → ((chunks : ℕ → Chunk) (t : Levels) → IsAt host chunks p.names was before t → IsSound t [] → IfOk r (Drains host chunks q.names now rest t)) → OnOk r (Thins host p was before q now rest)
-drains-thins-if {E} {H} host (Ok b) p q was now before rest parts here same g f = drains-thins host p q was now before rest b parts here same g f
-drains-thins-if {E} {H} host (Err e) p q was now before rest parts here same g f = tt
-
--- after others, none that has no body is dead
-pub last-bare : {H : Type 0} (host : Ghosts H) (a p q : Parts) (x was now : H) (k before rest : DiskRest) (b : Bool) → b ≡ false → IsParts p → AreHere (core_of p) → q.segment ≡ p.segment → IsGiving p.names q.names → Thins host a x k p was before
-    → ((chunks : ℕ → Chunk) (t : Levels) → IsAt host chunks p.names was before t → IsSound t [] → DrainsOne host chunks q.names now rest t b) → DrainsBare host a x k q now rest
-last-bare host a p q x was now k before rest true e parts here same g f h t at s = absurd (let no : true ≡ false = e in cc)
-last-bare host a p q x was now k before rest false e parts here same g f h t at s =
-    let r = f t at s in
-    let d = h (chunk_at p.segment) r.levels r.at r.sound in
-    record {
-      thinned = record {
-        levels = d.0.levels;
-        at = subst (λ (z : Segment). IsAt host (chunk_at z) q.names now rest d.0.levels) (sym same) d.0.at;
-        sound = d.0.sound;
-        thinner = subst (λ h. IsThinner (heap_of t) h) (sym d.0.heap) r.thinner;
-        bodies = λ i b there has.
-            let first = r.bodies i b there (subst (λ (h : Heap). Has h ((core_of a).entries i).name) d.0.heap has) in
-            body-then (core_of a) (core_of p) (core_of q) i b first (giving-bodies p q parts same g i first.at first.place);
-        minds = minds-trans (core_of a) (core_of p) (core_of q) r.minds (giving-minds p q parts here same g);
-      };
-      none = d.1;
-    }
 
 -- ---- the end of a drain
 
@@ -360,16 +278,6 @@ read-thinned host p was now before rest rests read t at x = record {
 }
 
 -- ---- by answers
-
-pub thins-ok : {T E H : Type 0} (host : Ghosts H) (r : Result T E) (p q : Parts) (was now : H) (before rest : DiskRest) → ((t : Levels) → StandsFor host p was before t → IsSound t [] → OnOk r (IsThinned host p q now rest t)) → OnOk r (Thins host p was before q now rest)
-thins-ok {T} {E} {H} host (Ok v) p q was now before rest f = f
-thins-ok {T} {E} {H} host (Err e) p q was now before rest f = tt
-
-pub bare-thins : {H : Type 0} (host : Ghosts H) (p q : Parts) (was now : H) (before rest : DiskRest) → DrainsBare host p was before q now rest → Thins host p was before q now rest
-bare-thins host p q was now before rest f t at x = (f t at x).thinned
-
-pub drained-thins : {H : Type 0} (host : Ghosts H) (p q : Parts) (was now : H) (before rest : DiskRest) → DrainsDead host p was before q now rest → Thins host p was before q now rest
-drained-thins host p q was now before rest f t at x = (f t at x).thinned
 
 pub leaves-bound : (p q : Parts) → LeavesRest p q → entries_of q.names.table ≡ entries_of p.names.table
 leaves-bound p q x = bound-entries p q x.bound

@@ -1,7 +1,5 @@
 -- One flag of entries differs, and nothing else: what it leaves as it was. All of it is about cores alone, but the last.
 use Rattle.std.proofs.Common.{◌≡◌, ℕ, ◌+◌, Bool, true, refl, sym, ◌∙◌, ap, arith, Option, Some, None, count_by}
-use Rattle.loom_host.specs.declared.outside.Host.{Ghosts}
-use Rattle.disk_objects.specs.declared.rest.DiskRest.{DiskRest}
 use Rattle.object_table.specs.declared.entry.Entry.{Entry}
 use Rattle.object_table.specs.Entries.{put, is_used, place_of, sum_below, with_touched}
 use Rattle.core_segment.specs.Chunks.{Chunk}
@@ -12,14 +10,9 @@ use Rattle.core_view.specs.Purge.{IsPurged, fresh_by, fresh_of}
 use Rattle.core_view.proofs.Entries.{IsStep, at-entry, touch-step, touch-held, touch-backed, step-core, step-outside}
 use Rattle.core_view.proofs.Sums.{sum-same}
 use Rattle.core_view.proofs.Tight.{owners-tight}
-use Rattle.leaf_lambda.specs.declared.parts.Parts.{Parts}
-use Rattle.leaf_lambda.specs.Parts.{core_of, IsParts}
-use Rattle.purger.specs.Counts.{KeepsCounts, KeepsSound}
-use Rattle.purger.specs.Marks.{AreHere, KeepsMarks, MindsMarks}
+use Rattle.purger.specs.Counts.{KeepsCounts}
+use Rattle.purger.specs.Marks.{AreHere, KeepsMarks}
 use Rattle.purger.specs.Touches.{IsTouching}
-use Rattle.purger.proofs.MindLaws.{NoneCame, minds-kept}
-use Rattle.purger.proofs.NamingLaws.{counts-free}
-use Rattle.purger.proofs.SoundLaws.{core-sound}
 
 -- ---- one entry
 
@@ -108,20 +101,9 @@ touch-marks c d step = record {
     go None = refl
     go (Some q) = touch-mark c d q step
 
-pub touch-came : (c d : Core) → IsTouching c d → NoneCame c d
-touch-came c d step s p at = record { at = p; place = ap place_of (sym (touch-state c d s step)) ∙ at; name = touch-name c d s step }
-
-pub touch-minds : (c d : Core) → IsTouching c d → MindsMarks c d
-touch-minds c d step = minds-kept c d (touch-came c d step) (touch-marks c d step)
-
 pub touch-counts : (c d : Core) → IsTouching c d → KeepsCounts c d
 touch-counts c d step = record { find = step.find; changes = λ m. ap (λ (f : ℕ → Option ℕ). change_by d.entries (f m)) step.find ∙ go (c.find m) }
   where
     go : (o : Option ℕ) → change_by d.entries o ≡ change_by c.entries o
     go None = refl
     go (Some q) = touch-same c d q (λ (e : Entry). e.change) step (λ e b. refl)
-
--- ---- sound levels stay sound
-
-pub touch-sound : {H : Type 0} (host : Ghosts H) (p q : Parts) (now : H) (rest : DiskRest) → IsParts q → Stays (core_of p) (core_of q) → IsTouching (core_of p) (core_of q) → KeepsSound host p now rest q now rest
-touch-sound host p q now rest parts stays step = core-sound host p q now rest parts.core stays (counts-free (core_of p) (core_of q) (touch-counts (core_of p) (core_of q) step))

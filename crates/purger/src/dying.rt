@@ -1,11 +1,93 @@
 //! A dead object of a pager goes without being written.
+ghost use Rattle.std.specs.Prelude.{◌≡◌, ◌+◌, ◌+ℤ◌, ◌≤◌, ◌<◌, ◌↔◌, ℕ, pos, List, Option, None, Some, true, IsTrue, IfOk, IfErr, OnOk};
+ghost use Rattle.object_table.specs.Entries.{place_of, put};
+ghost use Rattle.core_segment.specs.Segment.{free_of, size_of};
+ghost use Rattle.disk_objects.specs.Calls.{HoldsObjects};
+ghost use Rattle.disk_objects.specs.Disk.{disk_held};
+ghost use Rattle.disk_objects.specs.Stays.{IsRead, StaysOnWork};
+ghost use Rattle.leaf_lambda.specs.Parts.{core_of, spare_of, IsParts};
+ghost use Rattle.counted_core.specs.Levels.{Stored, count_in};
+ghost use Rattle.delta_counts.specs.At.{IsStoredAt};
+ghost use Rattle.purger.specs.Draining.{IsForgotten, MayDrop};
+ghost use Rattle.purger.specs.Purge.{IsReadFault};
+
 use crate::alone::{MOST_ALONE, copy_fields};
-use crate::draining::{comes_to_none, count_behind, drop_record, forget};
-use crate::eviction::NOWHERE;
+use crate::eviction::{NOWHERE, count_of};
 use crate::pager::Pager;
-use leaf_lambda::steps::place_of_body;
+use disk_objects::DiskObjects;
+use leaf_lambda::Parts;
+use leaf_lambda::leaving::{drop_body, set_written};
+use leaf_lambda::steps::{free_leaf, place_of_body};
+use long_names::Name;
 use loom_host::{DiskFault, Host, Role};
 use object_table::Short;
+
+// Whether a change and a count on disk come to nothing.
+fn comes_to_none(change: i64, count: u64) -> bool
+    ensures { IsTrue result ↔ (change +ℤ pos count ≡ pos 0) }
+{
+    if change > 0 {
+        return false;
+    }
+    change.unsigned_abs() == count
+}
+
+// The count on disk of the name of an entry: of a fresh object, which has no record, 0, and nothing is read.
+#[inline(always)]
+fn count_behind<H: Host>(
+    disk: &mut DiskObjects<'_, H>,
+    name: Name,
+    fresh: bool,
+) -> Result<u64, DiskFault>
+    requires stands { HoldsObjects H.Host disk.old.host.now disk.old.rest }
+    ensures count { IsTrue (H.tells Role.Work) → (stored : ℕ → Option Stored) (pending : List ℕ) →
+        IsStoredAt H.Host disk.old.host.now disk.old.rest stored pending → (fresh ≡ true → stored name ≡ None) → IfOk result (λ n. n ≡ count_in (stored name)) }
+    ensures reads { IsRead H.Host disk.old disk.new }
+    ensures fault { IfErr result (IsReadFault (H.tells Role.Work) (H.faults disk.old.host.now Role.Work) (H.faults disk.new.host.now Role.Work)) }
+{
+    if fresh {
+        return Ok(0);
+    }
+    count_of(disk, name)
+}
+
+// Removes the record of a name that isn't pending; a fresh object has none.
+fn drop_record<H: Host>(
+    disk: &mut DiskObjects<'_, H>,
+    name: Name,
+    fresh: bool,
+) -> Result<(), DiskFault>
+    requires may { IsTrue (H.tells Role.Work) → (stored : ℕ → Option Stored) × (pending : List ℕ) ×
+        IsStoredAt H.Host disk.old.host.now disk.old.rest stored pending × MayDrop fresh stored pending name }
+    ensures dropped { IsTrue (H.tells Role.Work) → (stored : ℕ → Option Stored) (pending : List ℕ) →
+        IsStoredAt H.Host disk.old.host.now disk.old.rest stored pending → MayDrop fresh stored pending name →
+        OnOk result (IsStoredAt H.Host disk.new.host.now disk.new.rest (put stored name None) pending) }
+    ensures held { OnOk result (disk_held disk.new.rest ≤ disk_held disk.old.rest) }
+    ensures disk { StaysOnWork H.Host disk.old disk.new }
+    ensures fault { IfErr result (IsReadFault (H.tells Role.Work) (H.faults disk.old.host.now Role.Work) (H.faults disk.new.host.now Role.Work)) }
+{
+    if fresh {
+        return Ok(());
+    }
+    disk.remove(name)
+}
+
+// Takes the body and the entry of an object to which nothing refers. It isn't written.
+fn forget(p: &mut Parts, s: Short)
+    requires parts { IsParts p.old }
+    requires body { (at : ℕ) × (place_of ((core_of p.old).entries s.0).state ≡ Some at) }
+    requires none { ((core_of p.old).entries s.0).refs ≡ 0 }
+    ensures parts { IsParts p.new }
+    ensures forgotten { IsForgotten s.0 (core_of p.old) (core_of p.new) }
+    ensures spare { spare_of p.new ≡ spare_of p.old + 1 }
+    ensures size { size_of p.new.segment ≡ size_of p.old.segment }
+    ensures wider { free_of p.old.segment < free_of p.new.segment }
+{
+    // as if it had been: so it may be dropped
+    set_written(p, s);
+    drop_body(p, s);
+    free_leaf(p, s);
+}
 
 impl<'h, H: Host> Pager<'h, H> {
     ghost use Rattle.std.specs.Prelude.{[], ◌≡◌, ◌<◌, ◌≤◌, ℕ, Some, true, IsTrue, IfOk, OnOk};

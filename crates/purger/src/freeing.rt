@@ -1,11 +1,52 @@
 //! Dead objects go from a pager: names that have no body are freed on disk, and an object with a body is freed without being written.
-use crate::draining::{Next, entry_of};
+ghost use Rattle.std.specs.Prelude.{◌≡◌, ◌<◌, true, IfSome};
+ghost use Rattle.object_table.specs.Entries.{is_used};
+ghost use Rattle.leaf_lambda.specs.Parts.{core_of, IsParts};
+
 use crate::pager::Pager;
 use crate::room::{Pinned, RoomFault};
 use core_segment::laws::chunks_never_overlap;
+use leaf_lambda::Parts;
+use long_names::value_of;
 use loom_host::{DiskFault, Host, Role};
 use object_table::Short;
 use object_table::laws::entries_are_counted;
+
+// The entry of what a long word names, if it names an object that has one.
+#[inline(always)]
+pub(crate) fn entry_of(p: &Parts, long: u32) -> Option<Short>
+    requires parts { IsParts p.now }
+    ensures used { IfSome result (λ s. is_used ((core_of p.now).entries s.0).state ≡ true) }
+{
+    match value_of(long) {
+        Some(v) => match v.name() {
+            Some(name) => p.names.resident.find(name),
+            None => None,
+        },
+        None => None,
+    }
+}
+
+// With which of the dead objects that one held it goes on.
+#[derive(Clone, Copy, Debug, PartialEq, Eq)]
+pub(crate) enum Next {
+    First,
+    Last,
+}
+
+impl Next {
+    // The field that is looked at while so many of all are left behind it.
+    #[inline(always)]
+    pub(crate) fn field(&self, left: u32, all: u32) -> u32
+        requires { left < all }
+        ensures { result < all }
+    {
+        match self {
+            Next::First => all - 1 - left,
+            Next::Last => left,
+        }
+    }
+}
 
 impl<'h, H: Host> Pager<'h, H> {
     ghost use Rattle.std.specs.Prelude.{[], ◌≡◌, ◌+◌, ◌≤◌, ◌<◌, ℕ, None, true, IsTrue, IfOk, IfErr, OnOk, length};

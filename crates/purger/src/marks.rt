@@ -1,12 +1,10 @@
 // Marks go: all at once.
-ghost use Rattle.std.specs.Prelude.{◌≡◌, ◌<◌, ℕ, true, false, Some};
-ghost use Rattle.object_table.specs.Entries.{is_short, is_used, place_of};
-ghost use Rattle.object_table.specs.Table.{bound_of, entries_of};
-ghost use Rattle.core_view.specs.Counts.{outside, marked_of, change_of};
-ghost use Rattle.core_view.specs.Kept.{IsTight, Stays};
-ghost use Rattle.core_view.specs.Purge.{fresh_of};
+ghost use Rattle.std.specs.Prelude.{◌≡◌, ℕ, true, false};
+ghost use Rattle.object_table.specs.Entries.{is_used};
+ghost use Rattle.core_view.specs.Counts.{outside, marked_of};
+ghost use Rattle.core_view.specs.Kept.{Stays};
 ghost use Rattle.leaf_lambda.specs.Parts.{core_of, spare_of, IsParts};
-ghost use Rattle.purger.specs.Marks.{AreHere, IsUnmarking, LeavesMarks};
+ghost use Rattle.purger.specs.Marks.{IsUnmarking, LeavesMarks};
 
 use leaf_lambda::Parts;
 use object_table::Short;

@@ -24,14 +24,13 @@ pub struct Pager<'h, H: Host> {
 }
 
 impl<'h, H: Host> Pager<'h, H> {
-    ghost use Rattle.std.specs.Prelude.{◌≡◌, ◌⊎◌, ◌+◌, ◌*◌, ◌/◌, ◌^◌, ◌≤◌, ◌<◌, ℕ, Some, None, Ok, true, false, IsTrue, IsOk, IfOk, OnOk};
+    ghost use Rattle.std.specs.Prelude.{◌≡◌, ◌⊎◌, ◌+◌, ◌*◌, ◌/◌, ◌^◌, ◌≤◌, ◌<◌, ℕ, Some, None, Ok, true, false, IsOk, IfOk, OnOk};
     ghost use Rattle.object_table.specs.Entries.{is_short, place_of};
     ghost use Rattle.object_table.specs.Table.{bound_of, entries_of};
     ghost use Rattle.core_segment.specs.Segment.{free_of, largest_of};
     ghost use Rattle.core_view.specs.Purge.{HasNoIdle};
     ghost use Rattle.core_view.specs.Room.{is_among};
-    ghost use Rattle.purger.specs.Marks.{KeepsMarks};
-    ghost use Rattle.purger.specs.Pager.{core_in, Clears, HasLeft, IsReady, MakesRoom, Moves, Purges};
+    ghost use Rattle.purger.specs.Pager.{core_in, Clears, IsReady, MakesRoom, Moves, Purges};
     ghost use Rattle.purger.specs.Purge.{HasRoom, KeepsBodies};
     ghost use Rattle.purger.specs.Rounds.{HasCounted, IsFewBehind, KeepsAllBut, LostInNeed, StopsInTime};
     ghost use Rattle.purger.specs.declared.room.TheConstants.{ROUND_PARTS};

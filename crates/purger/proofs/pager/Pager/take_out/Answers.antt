@@ -37,7 +37,7 @@ returns g c =
     let d = c.drop_record.ensures in
     let f = c.forget.ensures in
     record {
-      takes = took-out s c.args.self.now _ tt c.requires.may e.name (ap (λ (y : Entry). y.name) c.used_entry-e.ensures) (record { work = d.work; lender = d.same_host; limit = d.room }) refl refl f.forgotten f.size f.wider f.spare c.in_ok-drop_record.ensures.held
+      takes = took-out s c.args.self.now _ tt c.requires.may e.name (ap (λ (y : Entry). y.name) c.used_entry-e.ensures) d.disk refl refl f.forgotten f.size f.wider f.spare c.in_ok-drop_record.ensures.held
           (λ told t at z. c.in_ok-drop_record.ensures.dropped told t.stored t.pending at.disk
           (may-drop t s c.requires.may.body.0 e.name e.flags.fresh e z (entry-at l.parts t s e (core-at g.H.Host l.parts l.disk.host.now l.disk.rest t at) c.used_entry-e.ensures)
           (ap (λ (y : Entry). place_of y.state) c.used_entry-e.ensures ∙ c.requires.may.body.1) refl refl));

@@ -22,7 +22,7 @@ returns-in_err-store-clause-evicts g c =
     let e = c.store.ensures in
     let b = c.make_record.new.self in
     wrote-fault c.args.s.0 c.requires.body.0 c.args.self.now b _ c.make_record.result c.from_residual-in_err-store.result c.in_err-store.field-0.0 c.requires.ready c.requires.body.1 c.make_record.ensures.reads c.from_residual-in_err-store.ensures.1
-    (wrote-others c.args.s.0 c.args.self.now b _ c.make_record.result c.make_record.ensures.reads (record { work = e.work; lender = e.same_host; limit = e.room }) refl refl)
+    (wrote-others c.args.s.0 c.args.self.now b _ c.make_record.result c.make_record.ensures.reads e.disk refl refl)
     (raw_of b.out).name c.in_ok-make_record.ensures.record.1 c.in_err-store.ensures.fault
 
 pub returns-clause-evicts : goal.returns-clause-evicts
@@ -39,7 +39,7 @@ returns-clause-evicts g c =
     subst (λ (q : Parts). core_of c.set_written.new.p ≡ with_entry (core_of q) s (written ((core_of q).entries s))) c.make_record.ensures.reads.parts w.core in
     wrote-evicts s a _ tt
     (record {
-      disk = stays-trans h a.levels.disk b.levels.disk c.store.new.disk x.disk (record { work = e.work; lender = e.same_host; limit = e.room });
+      disk = stays-trans h a.levels.disk b.levels.disk c.store.new.disk x.disk e.disk;
       pinned = x.pinned;
       size = ap size_of w.segment ∙ x.size;
       spare = w.spare ∙ x.spare;

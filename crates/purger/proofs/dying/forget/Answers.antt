@@ -5,7 +5,7 @@ use Rattle.core_segment.specs.declared.segment.TheConstants.{HEADER}
 use Rattle.core_segment.specs.Segment.{free_of, size_of}
 use Rattle.leaf_lambda.specs.Parts.{core_of}
 use Rattle.purger.proofs.ForgetLaws.{forgotten-of, left-idle, written-here}
-use Rattle.purger.proofs.draining.forget.Goals as goal
+use Rattle.purger.proofs.dying.forget.Goals as goal
 
 pub drop_body-requires-clause-body : goal.drop_body-requires-clause-body
 drop_body-requires-clause-body c = (c.requires.body.0, ap (λ (e : Entry). place_of e.state) (written-here (core_of c.args.p.now) (core_of c.set_written.new.p) c.args.s.0 c.set_written.ensures.core) ∙ c.requires.body.1)

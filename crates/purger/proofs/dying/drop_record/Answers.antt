@@ -2,16 +2,16 @@ use Rattle.std.proofs.Common.{arith}
 use Rattle.loom_host.specs.declared.outside.Role.TheVariants.{Work}
 use Rattle.disk_objects.specs.Places.{IsReadPlace}
 use Rattle.delta_counts.proofs.LowerLaws.{ok-map}
-use Rattle.purger.proofs.RoomLaws.{work-refl}
+use Rattle.disk_objects.proofs.StayLaws.{stays-refl}
 use Rattle.purger.proofs.GivingLaws.{slot-read-if}
 use Rattle.purger.proofs.DrainLaws.{fresh-dropped, other-dropped, other-idle}
-use Rattle.purger.proofs.draining.drop_record.Goals as goal
+use Rattle.purger.proofs.dying.drop_record.Goals as goal
 
 pub returns-then-fresh-clause-dropped : goal.returns-then-fresh-clause-dropped
 returns-then-fresh-clause-dropped g c = λ told stored pending at may. fresh-dropped g.H.Host c.args.disk.now.host.now c.args.disk.now.rest stored pending c.args.name c.args.fresh c.if-fresh.true may at
 
-pub returns-then-fresh-clause-work : goal.returns-then-fresh-clause-work
-returns-then-fresh-clause-work g c = work-refl g.H.Host c.args.disk.now.host.now
+pub returns-then-fresh-clause-disk : goal.returns-then-fresh-clause-disk
+returns-then-fresh-clause-disk g c = stays-refl g.H.Host c.args.disk.now
 
 pub remove-requires : goal.remove-requires
 remove-requires g c = record {

@@ -1,6 +1,6 @@
 use Rattle.std.proofs.Common.{sym, ap}
 use Rattle.counted_core.specs.Levels.{count_in}
-use Rattle.purger.proofs.draining.count_behind.Goals as goal
+use Rattle.purger.proofs.dying.count_behind.Goals as goal
 
 pub returns-then-fresh-clause-count : goal.returns-then-fresh-clause-count
 returns-then-fresh-clause-count g c = λ told stored pending at none. sym (ap count_in (none c.if-fresh.true))
