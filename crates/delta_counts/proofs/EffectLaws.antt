@@ -2,7 +2,6 @@
 use Rattle.std.proofs.Common.{◌≡◌, ℕ, pos, ◌<◌, ◌≤◌, Bool, true, false, None, is_some, [], List, ◌∷◌, ◌++◌, map, IsTrue, Result, Ok, Err, IfOk, IfErr, refl, sym, ◌∙◌, ap, subst, arith, ⊎_elim}
 use Rattle.std.specs.Result.{OnOk, IsErrAnd}
 use Rattle.long_names.specs.declared.value.Value.{Value}
-use Rattle.long_names.specs.Thin.{IsThinner}
 use Rattle.long_names.proofs.ThinLemmas.{IsThinner-refl, IsThinner-trans}
 use Rattle.loom_host.specs.declared.outside.DiskFault.{DiskFault}
 use Rattle.loom_host.specs.declared.outside.Host.{Ghosts}
@@ -10,7 +9,7 @@ use Rattle.loom_host.specs.declared.outside.Role.TheVariants.{Work}
 use Rattle.object_table.specs.declared.entry.Entry.{Entry}
 use Rattle.object_table.specs.declared.entry.EntryState.{EntryState}
 use Rattle.object_table.specs.Entries.{is_used, place_of, with_refs}
-use Rattle.object_table.specs.Table.{entry_at}
+use Rattle.object_table.specs.Table.{entries_of, entry_at}
 use Rattle.disk_objects.specs.declared.rest.DiskRest.{DiskRest}
 use Rattle.disk_objects.specs.Calls.{IsFault, IsSlotsFault}
 use Rattle.disk_objects.specs.Places.{IsSlotPlace}
@@ -38,13 +37,13 @@ use Rattle.counted_core.proofs.ChangeLaws.{folded-sound, folded-heap}
 use Rattle.counted_core.proofs.LevelLaws.{heap-same}
 use Rattle.delta_counts.specs.Parts.{core_with, IsCounting, IsNames, IsReferred, IsHeldMore, IsHeldLess}
 use Rattle.delta_counts.specs.At.{IsAt, AtSome, IsReached, IsSoundWith, CanFold, IsFolded, Drains, DrainsOne}
-use Rattle.delta_counts.specs.Giving.{IsGiving}
+use Rattle.delta_counts.specs.Giving.{IsGiving, NoneIdleBelow}
 use Rattle.delta_counts.specs.Faults.{IsFreeFault}
-use Rattle.delta_counts.specs.Effects.{core_in, HasSound, HeapStep, Same, Thinner, IsHeapStep, Reaches, Leaves, Keeps, Counts, Frees, Refers}
+use Rattle.delta_counts.specs.Effects.{core_in, HasSound, HeapStep, Same, Thinner, IsHeapStep, Reaches, Leaves, Keeps, Counts, Frees, Refers, StandsFor}
 use Rattle.delta_counts.specs.declared.two_levels.TwoLevels.{TwoLevels}
 use Rattle.delta_counts.proofs.AtLaws.{entry-is}
 use Rattle.delta_counts.specs.Shorts.{Lowers, short_value}
-use Rattle.delta_counts.proofs.DrainLaws.{counting-giving, thinner-one}
+use Rattle.delta_counts.proofs.DrainLaws.{counting-giving, first-none, if-map, none-core, then-one, thinner-one}
 use Rattle.delta_counts.proofs.PartLaws.{counting-trans}
 use Rattle.delta_counts.proofs.ShortLaws.{lowers-then, values-same}
 use Rattle.delta_counts.proofs.FaultLaws.{err-map, fault-slots, free-again, slots-again, slots-free}
@@ -337,22 +336,6 @@ refers-keeps {H} {host} s refs owed a b r stays told t at x = record {
 
 -- ---- what is dead
 
-one-reached : {H : Type 0} {host : Ghosts H} (a b : TwoLevels H host) (t : Levels) (found : Bool) → b.parts.segment ≡ a.parts.segment → DrainsOne host (chunk_at a.parts.segment) b.parts.names b.disk.host.now b.disk.rest t found → Reaches Thinner b t []
-one-reached {H} {host} a b t true same d = record {
-  levels = d.levels;
-  at = subst (λ (g : Segment). IsAt host (chunk_at g) b.parts.names b.disk.host.now b.disk.rest d.levels) (sym same) d.at;
-  sound = d.sound;
-  heap = d.thinner;
-}
-one-reached {H} {host} a b t false same d =
-    let r = d.0 in
-    record {
-      levels = r.levels;
-      at = subst (λ (g : Segment). IsAt host (chunk_at g) b.parts.names b.disk.host.now b.disk.rest r.levels) (sym same) r.at;
-      sound = r.sound;
-      heap = subst (λ h. IsThinner (heap_of t) h) (sym r.heap) (IsThinner-refl (heap_of t));
-    }
-
 first-reached : {H : Type 0} {host : Ghosts H} (a b : TwoLevels H host) (t : Levels) (found : Bool) → b.parts.segment ≡ a.parts.segment → IsSound t [] → Drains host (chunk_at a.parts.segment) b.parts.names b.disk.host.now b.disk.rest t found → Reaches Thinner b t []
 first-reached {H} {host} a b t true same x d = record {
   levels = d.3.levels;
@@ -371,11 +354,6 @@ pub firsts-reached : {H : Type 0} {host : Ghosts H} (a b : TwoLevels H host) (r 
     → (IsTrue (host.tells Work) → (chunks : ℕ → Chunk) (t : Levels) → IsAt host chunks a.parts.names a.disk.host.now a.disk.rest t → IsSound t [] → IfOk r (Drains host chunks b.parts.names b.disk.host.now b.disk.rest t)) → OnOk r (Keeps Thinner [] [] a b)
 firsts-reached {H} {host} a b (Ok found) same f = λ told t at x. first-reached a b t found same x (f told (chunk_at a.parts.segment) t at x)
 firsts-reached {H} {host} a b (Err e) same f = tt
-
-pub ones-reached : {H : Type 0} {host : Ghosts H} (a b : TwoLevels H host) (r : Result Bool DiskFault) → b.parts.segment ≡ a.parts.segment
-    → (IsTrue (host.tells Work) → (chunks : ℕ → Chunk) (t : Levels) → IsAt host chunks a.parts.names a.disk.host.now a.disk.rest t → IsSound t [] → IfOk r (DrainsOne host chunks b.parts.names b.disk.host.now b.disk.rest t)) → OnOk r (Keeps Thinner [] [] a b)
-ones-reached {H} {host} a b (Ok found) same f = λ told t at x. one-reached a b t found same (f told (chunk_at a.parts.segment) t at x)
-ones-reached {H} {host} a b (Err e) same f = tt
 
 pub names-free : {H : Type 0} {host : Ghosts H} (a b : TwoLevels H host) (r : Result Bool DiskFault) → b.parts.segment ≡ a.parts.segment → IsGiving a.parts.names b.parts.names → StaysOnWork host a.disk b.disk → OnOk r (Keeps Thinner [] [] a b)
     → IfErr r (IsFreeFault (host.tells Work) (host.faults a.disk.host.now Work) (host.faults b.disk.host.now Work) a.disk.rest) → Frees a b r
@@ -406,3 +384,24 @@ frees-then {T} {H} {host} a b c (Err f) x k y = record { leaves = leaves-thinner
 pub counts-frees : {T H : Type 0} {host : Ghosts H} (a b : TwoLevels H host) (r : Result T DiskFault) → Counts Same [] [] a b r → Frees a b r
 counts-frees {T} {H} {host} a b (Ok v) x = record { leaves = leaves-as-thinner a b x.leaves; keeps = keeps-as-thinner [] [] a b x.keeps; fault = tt }
 counts-frees {T} {H} {host} a b (Err f) x = record { leaves = leaves-as-thinner a b x.leaves; keeps = tt; fault = slots-free _ _ _ _ a.disk.rest a.disk.rest f (omega arith) refl x.fault }
+
+-- a fault that is handed on
+pub frees-exit : {S T H : Type 0} {host : Ghosts H} (a b : TwoLevels H host) (r : Result T DiskFault) (f : DiskFault) → IsErrAnd r (λ y. y ≡ f) → Frees {T = S} a b (Err f) → Frees a b r
+frees-exit {S} {T} {H} {host} a b (Ok x) f e p = absurd e
+frees-exit {S} {T} {H} {host} a b (Err y) f e p = record {
+  leaves = p.leaves;
+  keeps = tt;
+  fault = subst (λ (z : DiskFault). IsFreeFault (host.tells Work) (host.faults a.disk.host.now Work) (host.faults b.disk.host.now Work) a.disk.rest z) (sym e) p.fault;
+}
+
+-- where none was pending, and then the entries of idle leaves were given up, the next that is pending is the one, or there is none
+pub drained-then : {H : Type 0} {host : Ghosts H} (b c d : TwoLevels H host) (found : Bool) (r : Result Bool DiskFault) (t : Levels) → found ≡ false → IsTrue (host.tells Work) → IsSound t [] → Drains host (chunk_at b.parts.segment) b.parts.names b.disk.host.now b.disk.rest t found
+    → Leaves Same b c → Keeps Same [] [] b c → NoneIdleBelow (entries_of b.parts.names.table) c.parts.names → d.parts.segment ≡ c.parts.segment
+    → ((u : Levels) → StandsFor c u → IsSound u [] → IfOk r (Drains host (chunk_at d.parts.segment) d.parts.names d.disk.host.now d.disk.rest u)) → IfOk r (DrainsOne host (chunk_at d.parts.segment) d.parts.names d.disk.host.now d.disk.rest t)
+drained-then {H} {host} b c d found r t off told x first leaves keeps none same last =
+    let at = first-none host (chunk_at b.parts.segment) b.parts.names b.disk.host.now b.disk.rest t found off first in
+    let z = keeps told t at x in
+    if-map r (λ k v. then-one host (chunk_at d.parts.segment) b.parts.names c.parts.names d.parts.names b.disk.host.now c.disk.host.now d.disk.host.now b.disk.rest c.disk.rest d.disk.rest t z.levels k
+    (subst (λ (g : Segment). IsAt host (chunk_at g) b.parts.names b.disk.host.now b.disk.rest t) (sym (same ∙ leaves.segment)) at)
+    (subst (λ (g : Segment). IsAt host (chunk_at g) c.parts.names c.disk.host.now c.disk.rest z.levels) (sym same) z.at)
+    leaves.giving x z.heap z.sound (none-core host (chunk_at c.parts.segment) b.parts.names c.parts.names c.disk.host.now c.disk.rest z.levels leaves.giving none z.at z.sound) v) (last z.levels z.at z.sound)

@@ -13,18 +13,15 @@ use Rattle.disk_objects.specs.Disk.{DiskObject, IsDisk}
 use Rattle.disk_objects.specs.Calls.{IsGot, HasObject, IsIdle, TookFirst}
 use Rattle.core_segment.specs.Chunks.{Chunk}
 use Rattle.resident_table.specs.declared.Parts2.{Parts2}
-use Rattle.counted_core.specs.Levels.{Stored, Levels, heap_of, is_waiting}
+use Rattle.counted_core.specs.Levels.{Stored, Levels, is_waiting}
 use Rattle.counted_core.specs.Counted.{words_of, one_if, IsSound}
 use Rattle.work_space.specs.Blocks.{times}
 use Rattle.counted_core.specs.Dead.{IsLoose}
 use Rattle.counted_core.specs.Steps.{removed}
-use Rattle.counted_core.proofs.DeadLaws.{bounded, waiting-loose}
-use Rattle.long_names.proofs.CountLaws.{thinner-without}
-use Rattle.long_names.proofs.ThinLemmas.{IsThinner-refl, IsThinner-trans}
-use Rattle.long_names.specs.Thin.{IsThinner}
+use Rattle.counted_core.proofs.DeadLaws.{waiting-loose}
 use Rattle.counted_core.proofs.FreeLaws.{removed-heap, removed-sound}
 use Rattle.counted_core.proofs.QueueLaws.{times-here, times-other}
-use Rattle.delta_counts.specs.At.{stored_of, IsAt, IsReached, IsFreedAt, MayGo, Drains, IsDrained}
+use Rattle.delta_counts.specs.At.{stored_of, IsAt, IsReached, IsFreedAt, MayGo}
 use Rattle.counted_core.specs.Steps.{with_pending}
 use Rattle.delta_counts.proofs.StoredLaws.{object-at, remove-same}
 use Rattle.loom_host.proofs.WorkLaws.{work-same}
@@ -113,33 +110,6 @@ took-some pending P x n e took = subst (λ y. TookFirst pending P y) e took
 
 pub took-none : (pending : List ℕ) (P : List ℕ → Type 0) (x : Option ℕ) → x ≡ None → TookFirst pending P x → (pending ≡ []) × P []
 took-none pending P x e took = subst (λ y. TookFirst pending P y) e took
-
--- ---- all of them
-
--- freed, and sound, with a thinner heap
-pub record IsThinnerAt {H : Type 0} (host : Ghosts H) (chunks : ℕ → Chunk) (p : Parts2) (now : H) (rest : DiskRest) (t : Levels) : Type 0 where
-  pub levels : Levels
-  pub at : IsAt host chunks p now rest levels
-  pub sound : IsSound levels []
-  pub thinner : IsThinner (heap_of t) (heap_of levels)
-
-pub thinner-first : {H : Type 0} (host : Ghosts H) (chunks : ℕ → Chunk) (p : Parts2) (now : H) (rest : DiskRest) (t : Levels) → IsAt host chunks p now rest t → IsSound t [] → IsThinnerAt host chunks p now rest t
-thinner-first host chunks p now rest t at x = record { levels = t; at = at; sound = x; thinner = IsThinner-refl (heap_of t) }
-
-pub thinner-then : {H : Type 0} (host : Ghosts H) (chunks : ℕ → Chunk) (p new : Parts2) (was now : H) (before rest : DiskRest) (t : Levels) (b : Bool) (x : IsThinnerAt host chunks p was before t) → b ≡ true → Drains host chunks new now rest x.levels b → IsThinnerAt host chunks new now rest t
-thinner-then host chunks p new was now before rest t false x e d = absurd (let no : false ≡ true = e in cc)
-thinner-then host chunks p new was now before rest t true x e d = record {
-  levels = d.3.levels;
-  at = d.3.at;
-  sound = d.3.sound;
-  thinner = IsThinner-trans (heap_of t) (heap_of x.levels) (heap_of d.3.levels) x.thinner
-      (subst (λ h. IsThinner (heap_of x.levels) h) (sym d.3.heap) (thinner-without (heap_of x.levels) d.0 (bounded (heap_of x.levels) x.sound.heap) d.1.uncounted))
-      x.sound.heap.closed;
-}
-
-pub drained-end : {H : Type 0} (host : Ghosts H) (chunks : ℕ → Chunk) (p new : Parts2) (was now : H) (before rest : DiskRest) (t : Levels) (b : Bool) (x : IsThinnerAt host chunks p was before t) → b ≡ false → Drains host chunks new now rest x.levels b → IsDrained host chunks new now rest t
-drained-end host chunks p new was now before rest t true x e d = absurd (let no : true ≡ false = e in cc)
-drained-end host chunks p new was now before rest t false x e d = record { levels = x.levels; at = d.1; sound = x.sound; thinner = x.thinner; none = d.0 }
 
 pub first-levels : (t : Levels) (n : ℕ) (others : List ℕ) (x : IsSound t []) (e : t.pending ≡ n ∷ others) → (first-may t n others x e).levels ≡ t
 unfolding first-may

@@ -255,9 +255,6 @@ none-later p q s a none idle = go (a.entries s)
 pub gone-idle : (e : Entry) → e ≡ free_entry → IsIdleEntry e → ⊥
 gone-idle e is idle = let off : is_used e.state ≡ false = ap (λ (x : Entry). is_used x.state) is in let on = idle.used in cc
 
-pub giving-names : (p q : Parts2) → IsGiving p q → IsNames p → IsNames q
-giving-names p q a names = (names.0, a.core names.0 names.1)
-
 eq-is : (j k : ℕ) → eqb j k ≡ true → j ≡ k
 eq-is j k e = grind (arith, common_steps, e)
 

@@ -81,10 +81,6 @@ pub referred : (p now : Parts2) (s r : ℕ) → entry_at now.table ≡ put (entr
     → IsReferred s r p now
 referred p now s r entries size free resident = record { entries = entries; resident = resident; bound = ap (λ (n : ℕ). 2 * n + 2) size; free = free }
 
-used-with : (p : Parts2) (s : ℕ) (chunks : ℕ → Chunk) → is_used (entry_at p.table s).state ≡ true → is_used ((core_with chunks p).entries s).state ≡ true
-unfolding core_with
-used-with p s chunks used = used
-
 pub held-more : (p now : Parts2) (s : ℕ) (chunks : ℕ → Chunk) → is_used (entry_at p.table s).state ≡ true → entry_at now.table ≡ put (entry_at p.table) s (with_refs (entry_at p.table s) ((entry_at p.table s).refs + 1)) → entries_of now.table ≡ entries_of p.table → now.resident ≡ p.resident
     → IsCore (core_with chunks p) → IsHeldMore s (core_with chunks p) (core_with chunks now)
 unfolding core_with

@@ -65,9 +65,6 @@ lowers-then p q r vs ws first last chunks t owed is x = last chunks (with_core t
     join [] b c = refl
     join (v ∷ a) b c = ap (λ (xs : List Value). v ∷ xs) (join a b c)
 
-pub lowers-none : (p : Parts2) → Lowers p p []
-lowers-none p chunks t owed is x = subst (λ (c : Core). IsSound (with_core t c) owed) (sym is) x
-
 -- what words name stays where changes of counts differ
 pub value-same : (p q : Parts2) (w : ℕ) → IsCounting p q → short_value (entry_at q.table) w ≡ short_value (entry_at p.table) w
 value-same p q w same = ap (λ (e : Entry). cond (eqb (w % 2) 1) (Int (int_of_short w)) (Ref e.name)) (same.entries w)

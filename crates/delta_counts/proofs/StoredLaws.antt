@@ -29,13 +29,6 @@ object-at objects stored n r same there = go (map.get objects n) refl
         some : Some (stored_of o) ≡ Some r → stored_of o ≡ r
         some f = cc
 
-pub absent-at : (objects : Objects) (stored : ℕ → Option Stored) (n : ℕ) → ((q : ℕ) → option_map stored_of (map.get objects q) ≡ stored q) → stored n ≡ None → map.get objects n ≡ None
-absent-at objects stored n same there = go (map.get objects n) refl
-  where
-    go : (o : Option DiskObject) → map.get objects n ≡ o → map.get objects n ≡ None
-    go None e = e
-    go (Some o) e = let z : option_map stored_of (Some o) ≡ None = ap (λ o. option_map stored_of o) (sym e) ∙ same n ∙ there in absurd (cc)
-
 pub insert-same : (objects : Objects) (stored : ℕ → Option Stored) (n : ℕ) (o : DiskObject) → ((q : ℕ) → option_map stored_of (map.get objects q) ≡ stored q)
     → (q : ℕ) → option_map stored_of (map.get (map.insert objects n o) q) ≡ put stored n (Some (stored_of o)) q
 insert-same objects stored n o same = by_name {P = λ q. option_map stored_of (map.get (map.insert objects n o) q) ≡ put stored n (Some (stored_of o)) q} n

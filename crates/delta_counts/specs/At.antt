@@ -103,14 +103,6 @@ abbrev pub Drains : {H : Type 0} → Ghosts H → (ℕ → Chunk) → Parts2 →
 Drains host chunks p now rest t true = (n : ℕ) × IsDead t n × (t.core.find n ≡ None) × IsFreedAt host chunks p now rest t n
 Drains host chunks p now rest t false = (t.pending ≡ []) × IsAt host chunks p now rest t
 
--- dead names were freed until none is pending: the heap is thinner
-pub record IsDrained {H : Type 0} (host : Ghosts H) (chunks : ℕ → Chunk) (p : Parts2) (now : H) (rest : DiskRest) (t : Levels) : Type 0 where
-  pub levels : Levels
-  pub at : IsAt host chunks p now rest levels
-  pub sound : IsSound levels []
-  pub thinner : IsThinner (heap_of t) (heap_of levels)
-  pub none : levels.pending ≡ []
-
 -- one name was freed that no word of the heap was, and no register or slot, and that isn't known
 pub record IsOneFreed {H : Type 0} (host : Ghosts H) (chunks : ℕ → Chunk) (p : Parts2) (now : H) (rest : DiskRest) (t : Levels) : Type 0 where
   pub name : ℕ

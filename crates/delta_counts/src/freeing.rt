@@ -1,5 +1,5 @@
 // Dead names that wait on disk are freed, one at a time.
-ghost use Rattle.std.specs.Prelude.{◌≡◌, ◌+◌, ◌≤◌, ℕ, [], false, IsTrue, OnOk, IfOk, IfErr};
+ghost use Rattle.std.specs.Prelude.{◌≡◌, ◌+◌, ℕ, [], false, IsTrue, OnOk, IfOk, IfErr};
 ghost use Rattle.loom_host.specs.declared.outside.Role.{Role};
 ghost use Rattle.object_record.specs.Buffer.{HasRecord};
 ghost use Rattle.core_segment.specs.Chunks.{Chunk};
@@ -9,7 +9,7 @@ ghost use Rattle.counted_core.specs.Levels.{Levels};
 ghost use Rattle.counted_core.specs.Counted.{IsSound};
 ghost use Rattle.delta_counts.specs.Faults.{IsFreeFault};
 ghost use Rattle.delta_counts.specs.Parts.{IsNames, IsCounting};
-ghost use Rattle.delta_counts.specs.At.{IsAt, AtSome, IsSoundWith, MayGo, IsFreedAt, Drains, IsDrained};
+ghost use Rattle.delta_counts.specs.At.{IsAt, AtSome, IsSoundWith, MayGo, IsFreedAt, Drains};
 
 use crate::words::lower_words;
 use disk_objects::DiskObjects;
@@ -69,28 +69,4 @@ pub fn drain_pending<H: Host>(
     };
     free(p, disk, buf, name)?;
     Ok(true)
-}
-
-/// Frees dead names until none is pending.
-pub fn drain_all<H: Host>(
-    p: &mut Parts2,
-    disk: &mut DiskObjects<'_, H>,
-    buf: &mut RecordBuf,
-) -> Result<(), DiskFault>
-    requires names { IsNames p.old }
-    requires sound { AtSome H.Host p.old disk.old.host.now disk.old.rest (IsSoundWith []) }
-    ensures drained { IsTrue (H.tells Role.Work) → (chunks : ℕ → Chunk) (t : Levels) →
-        IsAt H.Host chunks p.old disk.old.host.now disk.old.rest t → IsSound t [] →
-        OnOk result (IsDrained H.Host chunks p.new disk.new.host.now disk.new.rest t) }
-    ensures counting { IsCounting p.old p.new }
-    ensures room { disk_room disk.new.rest ≡ disk_room disk.old.rest }
-    ensures work { IsWorkOnly H.Host disk.old.host.now disk.new.host.now }
-    ensures same_host { disk.new.host.ghost_name ≡ disk.old.host.ghost_name }
-    ensures fault { IfErr result (IsFreeFault (H.tells Role.Work) (H.faults disk.old.host.now Role.Work) (H.faults disk.new.host.now Role.Work) disk.old.rest) }
-{
-    loop {
-        if !drain_pending(p, disk, buf)? {
-            return Ok(());
-        }
-    }
 }

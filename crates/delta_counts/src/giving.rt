@@ -2,10 +2,10 @@
 ghost use Rattle.std.specs.Prelude.{◌≡◌, ◌≢◌, ◌<◌, ◌↔◌, ℕ, true, [], IsTrue, OnOk, IfErr};
 ghost use Rattle.loom_host.specs.declared.outside.Role.{Role};
 ghost use Rattle.object_table.specs.Entries.{is_short, free_entry};
-ghost use Rattle.object_table.specs.Table.{entry_at, entries_of, bound_of};
+ghost use Rattle.object_table.specs.Table.{entry_at, bound_of};
 ghost use Rattle.core_segment.specs.Chunks.{Chunk};
 ghost use Rattle.loom_host.specs.Work.{IsWorkOnly};
-ghost use Rattle.disk_objects.specs.Calls.{IsFault, IsSlotsFault};
+ghost use Rattle.disk_objects.specs.Calls.{IsFault};
 ghost use Rattle.disk_objects.specs.Places.{IsSlotPlace};
 ghost use Rattle.disk_objects.specs.Disk.{disk_room, disk_held};
 ghost use Rattle.counted_core.specs.Levels.{Levels};
@@ -13,7 +13,7 @@ ghost use Rattle.counted_core.specs.Counted.{IsSound};
 ghost use Rattle.counted_core.specs.Steps.{with_change};
 ghost use Rattle.delta_counts.specs.Parts.{IsNames};
 ghost use Rattle.delta_counts.specs.At.{IsAt, AtSome, IsReached, IsSoundWith};
-ghost use Rattle.delta_counts.specs.Giving.{IsIdleEntry, IsGiving, NoneIdleBelow};
+ghost use Rattle.delta_counts.specs.Giving.{IsIdleEntry, IsGiving};
 
 use crate::folding::fold;
 use disk_objects::DiskObjects;
@@ -71,54 +71,4 @@ pub fn give_up<H: Host>(
         return Ok(());
     }
     disk.put_pending(name)
-}
-
-/// Gives up the entry, if it is that of an idle leaf.
-#[inline(always)]
-pub fn give_idle_at<H: Host>(
-    p: &mut Parts2,
-    disk: &mut DiskObjects<'_, H>,
-    s: Short,
-) -> Result<(), DiskFault>
-    requires names { IsNames p.old }
-    requires short { is_short s.0 ≡ true }
-    requires within { s.0 < bound_of p.old.table }
-    requires sound { AtSome H.Host p.old disk.old.host.now disk.old.rest (IsSoundWith []) }
-    ensures given { IsTrue (H.tells Role.Work) → (chunks : ℕ → Chunk) (t : Levels) →
-        IsAt H.Host chunks p.old disk.old.host.now disk.old.rest t → IsSound t [] →
-        OnOk result (IsReached H.Host chunks p.new disk.new.host.now disk.new.rest t []) }
-    ensures giving { IsGiving p.old p.new }
-    ensures gone { OnOk result (IsIdleEntry (entry_at p.new.table s.0) → ⊥) }
-    ensures held { disk_held disk.new.rest ≡ disk_held disk.old.rest }
-    ensures room { disk_room disk.new.rest ≡ disk_room disk.old.rest }
-    ensures work { IsWorkOnly H.Host disk.old.host.now disk.new.host.now }
-    ensures same_host { disk.new.host.ghost_name ≡ disk.old.host.ghost_name }
-    ensures fault { IfErr result (IsSlotsFault (H.tells Role.Work) (H.faults disk.old.host.now Role.Work) (H.faults disk.new.host.now Role.Work) disk.old.rest) }
-{
-    if is_idle(p, s) {
-        return give_up(p, disk, s);
-    }
-    Ok(())
-}
-
-/// Gives up the entries of all idle leaves.
-pub fn give_idle<H: Host>(p: &mut Parts2, disk: &mut DiskObjects<'_, H>) -> Result<(), DiskFault>
-    requires names { IsNames p.old }
-    requires sound { AtSome H.Host p.old disk.old.host.now disk.old.rest (IsSoundWith []) }
-    ensures given { IsTrue (H.tells Role.Work) → (chunks : ℕ → Chunk) (t : Levels) →
-        IsAt H.Host chunks p.old disk.old.host.now disk.old.rest t → IsSound t [] →
-        OnOk result (IsReached H.Host chunks p.new disk.new.host.now disk.new.rest t []) }
-    ensures giving { IsGiving p.old p.new }
-    ensures none { OnOk result (NoneIdleBelow (entries_of p.old.table) p.new) }
-    ensures held { disk_held disk.new.rest ≡ disk_held disk.old.rest }
-    ensures room { disk_room disk.new.rest ≡ disk_room disk.old.rest }
-    ensures work { IsWorkOnly H.Host disk.old.host.now disk.new.host.now }
-    ensures same_host { disk.new.host.ghost_name ≡ disk.old.host.ghost_name }
-    ensures fault { IfErr result (IsSlotsFault (H.tells Role.Work) (H.faults disk.old.host.now Role.Work) (H.faults disk.new.host.now Role.Work) disk.old.rest) }
-{
-    let count = p.table.used_end();
-    for k in 0..count {
-        give_idle_at(p, disk, Short(2 * (k + 1)))?;
-    }
-    Ok(())
 }

@@ -1,13 +1,13 @@
 //! Counts of objects: changes gathered in entries, folded into the counts on disk, and what is dead freed.
 //!
 //! Each word that joins or leaves the held heap is a change of its name's count: in the entry (`add_change`), or on disk where the name has
-//! none (`lower`). `fold` adds the change of an entry to the count on disk, and `give_up` frees the entry of a leaf to which nothing refers.
-//! A name whose count is 0 then, that has no entry and isn't known, is pending on disk; `drain_one` frees one such name, and lowers the counts of
-//! what it held. No call takes memory or an entry, and each ends over every host, also over one whose Work lies.
+//! none (`lower`). `fold` adds the change of an entry to the count on disk, and `give_idle_at` frees the entry of a leaf to which nothing
+//! refers. A name whose count is 0 then, that has no entry and isn't known, is pending on disk; `drain_one` frees one such name, and lowers the
+//! counts of what it held. No call takes memory or an entry, and each ends over every host, also over one whose Work lies.
 //!
-//!     add_change(&mut names, s, -1);                   // a word less is the name of s
-//!     give_up(&mut names, &mut disk, s)?;              // its leaf, to which nothing refers any more
-//!     while drain_one(&mut names, &mut disk, &mut buf)? {}
+//!     add_change(&mut levels.parts.names, s, -1);      // a word less is the name of s
+//!     levels.give_idle_at(s)?;                         // its leaf, if nothing refers to it any more
+//!     while levels.drain_one(&mut buf)? {}
 //!
 //! What the counts mean stands in `counted_core`: `IsSound t owed` says that they are exact but for the words that are owed. Here `IsAt` says
 //! that parts and a disk stand for such levels, and each call says what it makes of them where the host tells Work. Read `specs/At.antt` first,
@@ -25,7 +25,6 @@
 #![tactic(auto)]
 
 mod changes;
-mod draining;
 mod folding;
 mod freeing;
 mod giving;
@@ -35,11 +34,5 @@ mod stored;
 mod two_levels;
 mod words;
 
-pub use changes::{add_change, lower};
-pub use draining::drain_one;
-pub use folding::fold;
-pub use freeing::{drain_all, drain_pending};
-pub use giving::{give_idle, give_idle_at, give_up};
-pub use shorts::{lower_short, lower_shorts};
+pub use changes::add_change;
 pub use two_levels::TwoLevels;
-pub use words::lower_words;

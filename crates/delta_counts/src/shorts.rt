@@ -1,6 +1,5 @@
 // The short words of an object that is freed: each gives its entry, so nothing is searched.
-ghost use Rattle.std.specs.Prelude.{◌≡◌, ◌%◌, ◌==◌, [], ◌∷◌, map, false};
-ghost use Rattle.object_table.specs.Entries.{is_used};
+ghost use Rattle.std.specs.Prelude.{◌%◌, ◌==◌, [], ◌∷◌, map};
 ghost use Rattle.object_table.specs.Table.{entry_at};
 ghost use Rattle.delta_counts.specs.Parts.{IsNames, IsCounting};
 ghost use Rattle.delta_counts.specs.Shorts.{AreAtHand, IsAtHand, Lowers, short_value};

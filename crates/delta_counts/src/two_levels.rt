@@ -5,7 +5,6 @@
 // since it is lost where Work fails or lies.
 ghost use Rattle.leaf_lambda.specs.Whole.{IsWhole, IsWhole-prop};
 
-use crate::draining::drain_one;
 use crate::folding::fold;
 use crate::freeing::drain_pending;
 use crate::giving::{give_up, is_idle};
@@ -26,7 +25,7 @@ pub struct TwoLevels<'h, H: Host> {
 }
 
 impl<'h, H: Host> TwoLevels<'h, H> {
-    ghost use Rattle.std.specs.Prelude.{◌≡◌, ◌<◌, ◌≤◌, ◌+◌, ◌-◌, ◌^◌, [], ◌∷◌, true, pos, None, map, IsTrue, IfOk, IfErr, OnOk};
+    ghost use Rattle.std.specs.Prelude.{◌≡◌, ◌<◌, ◌≤◌, ◌+◌, ◌-◌, ◌^◌, [], ◌∷◌, true, false, pos, None, map, IsTrue, IfOk, IfErr, OnOk};
     ghost use Rattle.object_table.specs.Entries.{free_entry, is_short, is_used, place_of};
     ghost use Rattle.object_table.specs.Table.{bound_of, entries_of, entry_at};
     ghost use Rattle.core_view.specs.Counts.{outside};
@@ -139,7 +138,7 @@ impl<'h, H: Host> TwoLevels<'h, H> {
         lower_words(&mut self.parts.names, &mut self.disk, buf, place)
     }
 
-    /// One word less for each of these short words, none of which is a lambda.
+    /// One word less for the class and for each of these short words, none of which is a lambda.
     pub fn lower_shorts(&mut self, class: Short, words: &[u16])
         requires hand { AreAtHand self.old.parts.names (class.0 ∷ words.now) }
         ensures leaves { Leaves Same self.old self.new }
@@ -158,12 +157,14 @@ impl<'h, H: Host> TwoLevels<'h, H> {
             IfOk result (Drains H.Host (chunk_at self.new.parts.segment) self.new.parts.names self.new.disk.host.now self.new.disk.rest t) }
         ensures counting { IsCounting self.old.parts.names self.new.parts.names }
         ensures held { IfOk result (λ found. IsTrue found → disk_held self.new.disk.rest + 1 ≡ disk_held self.old.disk.rest) }
+        ensures still { IfOk result (λ found. found ≡ false → disk_held self.new.disk.rest ≡ disk_held self.old.disk.rest) }
         ensures record { IfOk result (λ found. IsTrue found → HasRecord buf.new) }
     {
         drain_pending(&mut self.parts.names, &mut self.disk, buf)
     }
 
-    /// Frees one dead name that has no body in core, and lowers the counts of what it held. False exactly where there is none.
+    /// Frees one dead name that has no body in core, and lowers the counts of what it held. False exactly where there is none. Where none is
+    /// pending, the entries of idle leaves are given up first.
     pub fn drain_one(&mut self, buf: &mut RecordBuf) -> Result<bool, DiskFault>
         requires sound { HasSound self.old [] }
         ensures frees { Frees self.old self.new result }
@@ -171,6 +172,10 @@ impl<'h, H: Host> TwoLevels<'h, H> {
             IfOk result (DrainsOne H.Host (chunk_at self.new.parts.segment) self.new.parts.names self.new.disk.host.now self.new.disk.rest t) }
         ensures held { IfOk result (λ found. IsTrue found → disk_held self.new.disk.rest + 1 ≡ disk_held self.old.disk.rest) }
     {
-        drain_one(&mut self.parts.names, &mut self.disk, buf)
+        if self.drain_pending(buf)? {
+            return Ok(true);
+        }
+        self.give_idle()?;
+        self.drain_pending(buf)
     }
 }

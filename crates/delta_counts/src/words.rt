@@ -1,5 +1,5 @@
 // The words of a record that is freed.
-ghost use Rattle.std.specs.Prelude.{◌≡◌, ◌≤◌, ℕ, List, [], ◌∷◌, map, IsTrue, OnOk, IfErr};
+ghost use Rattle.std.specs.Prelude.{◌≡◌, ℕ, List, [], ◌∷◌, map, IsTrue, OnOk, IfErr};
 ghost use Rattle.long_names.specs.Words.{IsValue};
 ghost use Rattle.long_names.specs.declared.value.Value.{Value as Meaning};
 ghost use Rattle.loom_host.specs.declared.outside.Role.{Role};
