@@ -1,5 +1,5 @@
 -- The parts of an image, one after the other, and why one was not put.
-use Rattle.std.proofs.Common.{◌≡◌, ℕ, ◌+◌, ◌*◌, ◌≤◌, ◌++◌, List, [], length, take, drop, Some, refl, sym, ap, ap₂, ◌∙◌, append_assoc, arith}
+use Rattle.std.proofs.Common.{◌≡◌, ℕ, ◌+◌, ◌*◌, ◌≤◌, ◌++◌, List, [], length, take, drop, Some, refl, sym, subst, ap, ap₂, ◌∙◌, append_assoc, arith}
 use Rattle.std.specs.Prelude.{slice_get}
 use Rattle.std.specs.List.{flat_map}
 use Rattle.long_names.specs.Counting.{Rose}
@@ -14,7 +14,7 @@ use Rattle.loom_host.specs.Work.{IsWorkRead}
 use Rattle.loom_host.specs.declared.outside.DiskFault.TheVariants as disk
 use Rattle.loom_host.specs.declared.outside.Host.{Ghosts}
 use Rattle.checkpoint.specs.Area.{IsBegun, text_of}
-use Rattle.checkpoint.specs.Faults.{IsFailed, IsKeepFault}
+use Rattle.checkpoint.specs.Faults.{IsKeepFault}
 use Rattle.checkpoint.specs.Layout.{area_in}
 use Rattle.checkpoint.specs.declared.area.Area.{Area}
 use Rattle.checkpoint.specs.declared.fault.VaultFault.{VaultFault}
@@ -67,19 +67,14 @@ read-still host now = record { roles = λ r. refl; other_faults = λ r other. re
 later-rose : (before between now : ℕ) → before ≤ between → Rose between now → Rose before now
 later-rose before between now later rose = omega arith
 
--- a call on the vault failed
-pub failed-kept : {H : Type 0} (host : Ghosts H) (old new : H) (before between now : ℕ) (f : VaultFault) → before ≤ between → IsFailed between now f → IsKeepFault host old new before now f
-failed-kept host old new before between now (fault.Failed count) later is = (is.0, later-rose before between now later is.1)
-failed-kept host old new before between now (fault.Bad place) later is = is
-failed-kept host old new before between now (fault.Disk f) later is = absurd is
-failed-kept host old new before between now fault.Memory later is = tt
-
--- what was refused later on
-pub kept-later : {H : Type 0} (host : Ghosts H) (old mid new : H) (before between now : ℕ) (f : VaultFault) → IsWorkRead host old mid → before ≤ between → IsKeepFault host mid new between now f
+-- what was refused later on: until then the disk was only read, and no call on the vault failed
+pub kept-later : {H : Type 0} (host : Ghosts H) (old mid new : H) (before between now : ℕ) (f : VaultFault) → IsWorkRead host old mid → between ≡ before → IsKeepFault host mid new between now f
     → IsKeepFault host old new before now f
-kept-later host old mid new before between now (fault.Failed count) read later is = (is.0, later-rose before between now later is.1)
-kept-later host old mid new before between now (fault.Bad place) read later is = is
-kept-later host old mid new before between now (fault.Disk (disk.Work count)) read later is = (is.0, later-rose _ _ _ read.later is.1)
-kept-later host old mid new before between now (fault.Disk (disk.Full held room)) read later is = is
-kept-later host old mid new before between now (fault.Disk (disk.Damaged place name)) read later is = is
-kept-later host old mid new before between now fault.Memory read later is = tt
+kept-later host old mid new before between now f read calm is = subst (λ (b : ℕ). IsKeepFault host old new b now f) calm (go f is) where
+  go : (f : VaultFault) → IsKeepFault host mid new between now f → IsKeepFault host old new between now f
+  go (fault.Failed count) is = is
+  go (fault.Bad place) is = is
+  go (fault.Disk (disk.Work count)) is = (is.0, (is.1.0, later-rose _ _ _ read.later is.1.1))
+  go (fault.Disk (disk.Full held room)) is = is
+  go (fault.Disk (disk.Damaged place name)) is = is
+  go fault.Memory is = is

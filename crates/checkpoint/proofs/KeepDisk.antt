@@ -1,9 +1,8 @@
 -- What `keep` reads of the disk before it writes to the vault, and why it was refused.
-use Rattle.std.proofs.Common.{◌≡◌, ℕ, ◌≤◌, List, length, Option, IsTrue, inl, inr, sym, ap, subst, ◌∙◌, arith}
+use Rattle.std.proofs.Common.{◌≡◌, ℕ, ◌≤◌, List, length, Option, IsTrue, inl, inr, refl, sym, ap, subst, ◌∙◌, arith}
 use Rattle.std.specs.Prelude.{All}
 use Rattle.std.specs.FinMap as map
 use Rattle.std.proofs.lemmas.List.{length-map}
-use Rattle.long_names.specs.Counting.{Rose}
 use Rattle.long_names.specs.Heap.{Has}
 use Rattle.long_names.specs.declared.object.Object.{Object}
 use Rattle.loom_host.specs.Work.{IsWorkRead, work_of}
@@ -27,8 +26,6 @@ use Rattle.checkpoint.specs.Faults.{IsKeepFault, fault_of_names}
 use Rattle.checkpoint.specs.Inside.{HoldsNamed, image_text}
 use Rattle.checkpoint.specs.Keeping.{HasEither}
 use Rattle.checkpoint.specs.Vault.{VaultState, Throughout}
-use Rattle.checkpoint.specs.declared.fault.VaultFault.{VaultFault}
-use Rattle.checkpoint.specs.declared.fault.VaultFault.TheVariants as fault
 use Rattle.checkpoint.proofs.MomentLaws.{throughout-gives}
 
 -- ---- names, state and text
@@ -92,29 +89,10 @@ stops-text tells a b old n v w same all =
 -- ---- refusals
 
 module _ {H : Type 0} (host : Ghosts H) where
-  pub names-fault : (old new : H) (rest : DiskRest) (before now : ℕ) (f : NamesFault)
-      → IsNamesFault (host.tells Work) (host.faults old Work) (host.faults new Work) rest f → IsKeepFault host old new before now (fault_of_names f)
-  names-fault old new rest before now (names.Disk (disk.Work count)) is = is
-  names-fault old new rest before now (names.Disk (disk.Full held room)) is = is
-  names-fault old new rest before now (names.Disk (disk.Damaged place name)) is = is.0
-  names-fault old new rest before now names.Memory is = tt
-
-  later-rose : (before mid now : ℕ) → before ≤ mid → Rose mid now → Rose before now
-  later-rose before mid now later rose = omega arith
-
-  -- after the disk was only read
-  pub keep-fault-later : (old mid new : H) (before now : ℕ) (f : VaultFault) → IsWorkRead host old mid → IsKeepFault host mid new before now f
-      → IsKeepFault host old new before now f
-  keep-fault-later old mid new before now (fault.Failed count) read is = is
-  keep-fault-later old mid new before now (fault.Bad place) read is = is
-  keep-fault-later old mid new before now (fault.Disk (disk.Work count)) read is = (is.0, later-rose _ _ _ read.later is.1)
-  keep-fault-later old mid new before now (fault.Disk (disk.Full held room)) read is = is
-  keep-fault-later old mid new before now (fault.Disk (disk.Damaged place name)) read is = is
-  keep-fault-later old mid new before now fault.Memory read is = tt
-
-  -- a call on the vault before it
-  pub keep-fault-before : (old new : H) (before mid now : ℕ) (f : VaultFault) → before ≤ mid → IsKeepFault host old new mid now f → IsKeepFault host old new before now f
-  keep-fault-before old new before mid now (fault.Failed count) later is = (is.0, later-rose _ _ _ later is.1)
-  keep-fault-before old new before mid now (fault.Bad place) later is = is
-  keep-fault-before old new before mid now (fault.Disk f) later is = is
-  keep-fault-before old new before mid now fault.Memory later is = tt
+  -- before any call on the vault
+  pub names-fault : (old new : H) (rest : DiskRest) (vault : ℕ) (f : NamesFault)
+      → IsNamesFault (host.tells Work) (host.faults old Work) (host.faults new Work) rest f → IsKeepFault host old new vault vault (fault_of_names f)
+  names-fault old new rest vault (names.Disk (disk.Work count)) is = (refl, is)
+  names-fault old new rest vault (names.Disk (disk.Full held room)) is = (refl, is)
+  names-fault old new rest vault (names.Disk (disk.Damaged place name)) is = (refl, is.0)
+  names-fault old new rest vault names.Memory is = refl

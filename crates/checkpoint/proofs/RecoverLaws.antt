@@ -1,6 +1,5 @@
 -- What `recover` finds, and what a stop within it may leave.
-use Rattle.std.proofs.Common.{◌≡◌, ℕ, ◌≤◌, Bool, true, false, cond, IsTrue, List, [], Option, None, Some, Result, refl, sym, ap, ◌∙◌, subst, arith}
-use Rattle.long_names.specs.Counting.{Rose}
+use Rattle.std.proofs.Common.{◌≡◌, ℕ, Bool, true, false, cond, IsTrue, List, [], Option, None, Some, Result, refl, sym, ap, ◌∙◌, subst}
 use Rattle.checkpoint.specs.Faults.{IsRecoverFault, IsSureBad}
 use Rattle.checkpoint.specs.Inside.{IsGateFault}
 use Rattle.checkpoint.specs.Layout.{bad_place, found, gate_in, is_bad, later_of, point_of}
@@ -34,24 +33,31 @@ none-bad w v u first second one two = go (is_bad 0 (gate_in w 0)) (is_bad 1 (gat
 
 -- ---- refusals
 
-later-rose : (before mid now : ℕ) → before ≤ mid → Rose mid now → Rose before now
-later-rose before mid now later rose = omega arith
+pub first-fault : (tells : Bool) (w v : List ℕ) (before mid now : ℕ) (f : VaultFault) → mid ≡ before → (IsTrue tells → v ≡ w) → IsGateFault tells 0 v mid now f → IsRecoverFault tells w before now f
+first-fault tells w v before mid now f calm same is = subst (λ (b : ℕ). IsRecoverFault tells w b now f) calm (go f is) where
+  go : (f : VaultFault) → IsGateFault tells 0 v mid now f → IsRecoverFault tells w mid now f
+  go (fault.Failed count) is = is
+  go (fault.Bad place) is = (
+    is.0,
+    λ told.
+        ap (λ (b : Bool). cond b (Some 0) (cond (is_bad 1 (gate_in w 1)) (Some GATE_GAP) None)) (ap (λ (l : List ℕ). is_bad 0 (gate_in l 0)) (sym (same told)) ∙ is.2 told) ∙ ap Some (sym is.1),
+  )
+  go (fault.Disk f) is = is
+  go fault.Memory is = is
 
-pub first-fault : (tells : Bool) (w v : List ℕ) (before mid now : ℕ) (f : VaultFault) → before ≤ mid → (IsTrue tells → v ≡ w) → IsGateFault tells 0 v mid now f → IsRecoverFault tells w before now f
-first-fault tells w v before mid now (fault.Failed count) later same is = (is.0, later-rose before mid now later is.1)
-first-fault tells w v before mid now (fault.Bad place) later same is = λ told.
-    ap (λ (b : Bool). cond b (Some 0) (cond (is_bad 1 (gate_in w 1)) (Some GATE_GAP) None)) (ap (λ (l : List ℕ). is_bad 0 (gate_in l 0)) (sym (same told)) ∙ is.1 told) ∙ ap Some (sym is.0)
-first-fault tells w v before mid now (fault.Disk f) later same is = is
-first-fault tells w v before mid now fault.Memory later same is = is
-
-pub second-fault : (tells : Bool) (w v u : List ℕ) (before mid now : ℕ) (f : VaultFault) → before ≤ mid → (IsTrue tells → v ≡ w) → (IsTrue tells → u ≡ w) → (IsTrue tells → is_bad 0 (gate_in v 0) ≡ false)
+pub second-fault : (tells : Bool) (w v u : List ℕ) (before mid now : ℕ) (f : VaultFault) → mid ≡ before → (IsTrue tells → v ≡ w) → (IsTrue tells → u ≡ w) → (IsTrue tells → is_bad 0 (gate_in v 0) ≡ false)
     → IsGateFault tells 1 u mid now f → IsRecoverFault tells w before now f
-second-fault tells w v u before mid now (fault.Failed count) later same also good is = (is.0, later-rose before mid now later is.1)
-second-fault tells w v u before mid now (fault.Bad place) later same also good is = λ told.
-    ap (λ (b : Bool). cond b (Some 0) (cond (is_bad 1 (gate_in w 1)) (Some GATE_GAP) None)) (ap (λ (l : List ℕ). is_bad 0 (gate_in l 0)) (sym (same told)) ∙ good told)
-    ∙ ap (λ (b : Bool). cond b (Some GATE_GAP) None) (ap (λ (l : List ℕ). is_bad 1 (gate_in l 1)) (sym (also told)) ∙ is.1 told) ∙ ap Some (sym is.0)
-second-fault tells w v u before mid now (fault.Disk f) later same also good is = is
-second-fault tells w v u before mid now fault.Memory later same also good is = is
+second-fault tells w v u before mid now f calm same also good is = subst (λ (b : ℕ). IsRecoverFault tells w b now f) calm (go f is) where
+  go : (f : VaultFault) → IsGateFault tells 1 u mid now f → IsRecoverFault tells w mid now f
+  go (fault.Failed count) is = is
+  go (fault.Bad place) is = (
+    is.0,
+    λ told.
+        ap (λ (b : Bool). cond b (Some 0) (cond (is_bad 1 (gate_in w 1)) (Some GATE_GAP) None)) (ap (λ (l : List ℕ). is_bad 0 (gate_in l 0)) (sym (same told)) ∙ good told)
+        ∙ ap (λ (b : Bool). cond b (Some GATE_GAP) None) (ap (λ (l : List ℕ). is_bad 1 (gate_in l 1)) (sym (also told)) ∙ is.2 told) ∙ ap Some (sym is.1),
+  )
+  go (fault.Disk f) is = is
+  go fault.Memory is = is
 
 -- whatever the fault is, where all is synced
 pub sure-bad : (s : VaultState) → unsynced_of s ≡ [] → (f : VaultFault) → IsSureBad s f

@@ -17,10 +17,10 @@ use Rattle.checkpoint.specs.declared.point.Point.{Point}
 use Rattle.checkpoint.specs.declared.fault.VaultFault.{VaultFault}
 use Rattle.checkpoint.specs.declared.fault.VaultFault.TheVariants as fault
 
--- a call on the vault failed, or this gate is bad
+-- a call on the vault failed; or, where none failed, this gate is bad
 abbrev pub IsGateFault : Bool → ℕ → List ℕ → ℕ → ℕ → VaultFault → Type 0
 IsGateFault tells s bytes before now (fault.Failed count) = (count ≡ now) × Rose before now
-IsGateFault tells s bytes before now (fault.Bad place) = (place ≡ GATE_GAP * s) × (IsTrue tells → is_bad s (gate_in bytes s) ≡ true)
+IsGateFault tells s bytes before now (fault.Bad place) = (now ≡ before) × (place ≡ GATE_GAP * s) × (IsTrue tells → is_bad s (gate_in bytes s) ≡ true)
 IsGateFault tells s bytes before now (fault.Disk fault) = ⊥
 IsGateFault tells s bytes before now fault.Memory = ⊥
 

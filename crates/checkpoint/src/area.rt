@@ -78,6 +78,7 @@ impl Area {
         ensures parity { self.new.parity ≡ self.old.parity }
         ensures spares { IsTrue V.tells → Spares (IsApart self.old.parity) (V.state vault.old) (V.state vault.new) }
         ensures later { V.faults vault.old ≤ V.faults vault.new }
+        ensures calm { OnOk result (V.faults vault.new ≡ V.faults vault.old) }
         ensures fault { IfErr result (IsFailed (V.faults vault.old) (V.faults vault.new)) }
     {
         let end = self.filled + piece.len();
@@ -102,6 +103,7 @@ impl Area {
         ensures parity { self.new.parity ≡ self.old.parity }
         ensures spares { IsTrue V.tells → Spares (IsApart self.old.parity) (V.state vault.old) (V.state vault.new) }
         ensures later { V.faults vault.old ≤ V.faults vault.new }
+        ensures calm { OnOk result (V.faults vault.new ≡ V.faults vault.old) }
         ensures fault { IfErr result (IsFailed (V.faults vault.old) (V.faults vault.new)) }
     {
         let mut rest = bytes;
@@ -119,6 +121,7 @@ impl Area {
             ≡ text_of self.now (contents_of (V.state vault.old))) }
         ensures spares { IsTrue V.tells → Spares (IsApart self.now.parity) (V.state vault.old) (V.state vault.new) }
         ensures later { V.faults vault.old ≤ V.faults vault.new }
+        ensures calm { OnOk result (V.faults vault.new ≡ V.faults vault.old) }
         ensures fault { IfErr result (IsFailed (V.faults vault.old) (V.faults vault.new)) }
     {
         if self.filled == 0 {

@@ -20,6 +20,7 @@ pub(crate) fn read<V: Vault>(vault: &mut V, place: u64, buf: &mut [u8]) -> Resul
     ensures bytes { IsTrue V.tells → OnOk result (buf.new ≡ window (contents_of (V.state vault.old)) place (length buf.old)) }
     ensures still { V.state vault.new ≡ V.state vault.old }
     ensures later { V.faults vault.old ≤ V.faults vault.new }
+    ensures calm { OnOk result (V.faults vault.new ≡ V.faults vault.old) }
     ensures fault { IfErr result (IsFailed (V.faults vault.old) (V.faults vault.new)) }
 {
     match vault.read_at(place, buf) {
@@ -31,6 +32,7 @@ pub(crate) fn read<V: Vault>(vault: &mut V, place: u64, buf: &mut [u8]) -> Resul
 pub(crate) fn write<V: Vault>(vault: &mut V, place: u64, bytes: &[u8]) -> Result<(), VaultFault>
     ensures written { IsTrue V.tells → IsWritten place bytes.now result (V.state vault.old) (V.state vault.new) }
     ensures later { V.faults vault.old ≤ V.faults vault.new }
+    ensures calm { OnOk result (V.faults vault.new ≡ V.faults vault.old) }
     ensures fault { IfErr result (IsFailed (V.faults vault.old) (V.faults vault.new)) }
 {
     match vault.write_at(place, bytes) {
@@ -42,6 +44,7 @@ pub(crate) fn write<V: Vault>(vault: &mut V, place: u64, bytes: &[u8]) -> Result
 pub(crate) fn sync<V: Vault>(vault: &mut V) -> Result<(), VaultFault>
     ensures synced { IsTrue V.tells → IsSynced result (V.state vault.old) (V.state vault.new) }
     ensures later { V.faults vault.old ≤ V.faults vault.new }
+    ensures calm { OnOk result (V.faults vault.new ≡ V.faults vault.old) }
     ensures fault { IfErr result (IsFailed (V.faults vault.old) (V.faults vault.new)) }
 {
     match vault.sync() {

@@ -7,7 +7,7 @@ use disk_objects::NamesFault;
 use loom_host::DiskFault;
 use std::alloc::AllocError;
 
-/// Why a checkpoint was not kept, or was not found or read.
+/// Why a checkpoint was not kept, or was not found or read. Where it isn't `Failed`, no call on the vault failed.
 #[derive(Clone, Copy, Debug, PartialEq, Eq)]
 pub enum VaultFault {
     /// A call on the vault failed; `count` is its fault count since then.

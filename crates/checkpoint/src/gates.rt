@@ -20,6 +20,7 @@ fn is_marked<V: Vault>(vault: &mut V, parity: u64) -> Result<bool, VaultFault>
     ensures byte { IsTrue V.tells → IfOk result (λ marked. marked ≡ (slice_index (contents_of (V.state vault.old)) (GATE_GAP * parity) == 1)) }
     ensures still { V.state vault.new ≡ V.state vault.old }
     ensures later { V.faults vault.old ≤ V.faults vault.new }
+    ensures calm { OnOk result (V.faults vault.new ≡ V.faults vault.old) }
     ensures fault { IfErr result (IsFailed (V.faults vault.old) (V.faults vault.new)) }
 {
     let mut byte = [0; 1];
@@ -33,6 +34,7 @@ fn mark<V: Vault>(vault: &mut V, parity: u64, byte: u8) -> Result<(), VaultFault
     ensures byte { IsTrue V.tells → OnOk result (slice_index (contents_of (V.state vault.new)) (GATE_GAP * parity) ≡ byte) }
     ensures spares { IsTrue V.tells → Spares (IsButByte parity) (V.state vault.old) (V.state vault.new) }
     ensures later { V.faults vault.old ≤ V.faults vault.new }
+    ensures calm { OnOk result (V.faults vault.new ≡ V.faults vault.old) }
     ensures fault { IfErr result (IsFailed (V.faults vault.old) (V.faults vault.new)) }
 {
     write(vault, GATE_GAP * parity, &[byte])
@@ -48,6 +50,7 @@ pub(crate) fn close_gate<V: Vault>(vault: &mut V, parity: u64) -> Result<(), Vau
     ensures closed { IsTrue V.tells → OnOk result (slice_index (contents_of (V.state vault.new)) (GATE_GAP * parity) ≢ 1) }
     ensures synced { IsTrue V.tells → OnOk result (unsynced_of (V.state vault.new) ≡ []) }
     ensures later { V.faults vault.old ≤ V.faults vault.new }
+    ensures calm { OnOk result (V.faults vault.new ≡ V.faults vault.old) }
     ensures fault { IfErr result (IsFailed (V.faults vault.old) (V.faults vault.new)) }
 {
     if is_marked(vault, parity)? {
@@ -63,6 +66,7 @@ pub(crate) fn open_gate<V: Vault>(vault: &mut V, parity: u64) -> Result<(), Vaul
     ensures open { IsTrue V.tells → OnOk result (slice_index (contents_of (V.state vault.new)) (GATE_GAP * parity) ≡ 1) }
     ensures synced { IsTrue V.tells → OnOk result (unsynced_of (V.state vault.new) ≡ []) }
     ensures later { V.faults vault.old ≤ V.faults vault.new }
+    ensures calm { OnOk result (V.faults vault.new ≡ V.faults vault.old) }
     ensures fault { IfErr result (IsFailed (V.faults vault.old) (V.faults vault.new)) }
 {
     mark(vault, parity, 1)?;
@@ -86,6 +90,7 @@ pub(crate) fn write_head<V: Vault>(vault: &mut V, point: Point) -> Result<(), Va
         area_in (contents_of (V.state vault.new)) (point.serial % 2) n ≡ area_in (contents_of (V.state vault.old)) (point.serial % 2) n }
     ensures spares { IsTrue V.tells → Spares (IsApart (point.serial % 2)) (V.state vault.old) (V.state vault.new) }
     ensures later { V.faults vault.old ≤ V.faults vault.new }
+    ensures calm { OnOk result (V.faults vault.new ≡ V.faults vault.old) }
     ensures fault { IfErr result (IsFailed (V.faults vault.old) (V.faults vault.new)) }
 {
     let place = GATE_GAP * (point.serial % 2) + SERIAL_AT as u64;

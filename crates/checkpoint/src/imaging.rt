@@ -47,6 +47,7 @@ fn put_head<V: Vault>(
     ensures parity { area.new.parity ≡ area.old.parity }
     ensures spares { IsTrue V.tells → Spares (IsApart area.old.parity) (V.state vault.old) (V.state vault.new) }
     ensures later { V.faults vault.old ≤ V.faults vault.new }
+    ensures calm { OnOk result (V.faults vault.new ≡ V.faults vault.old) }
     ensures fault { IfErr result (IsFailed (V.faults vault.old) (V.faults vault.new)) }
 {
     let opening = Opening {
@@ -74,6 +75,7 @@ fn put_counted<V: Vault>(
     ensures parity { area.new.parity ≡ area.old.parity }
     ensures spares { IsTrue V.tells → Spares (IsApart area.old.parity) (V.state vault.old) (V.state vault.new) }
     ensures later { V.faults vault.old ≤ V.faults vault.new }
+    ensures calm { OnOk result (V.faults vault.new ≡ V.faults vault.old) }
     ensures fault { IfErr result (IsFailed (V.faults vault.old) (V.faults vault.new)) }
 {
     let bytes = buf.bytes();
@@ -114,6 +116,7 @@ fn put_record<H: Host, V: Vault>(
     ensures rest { disk.new.rest ≡ disk.old.rest }
     ensures same_host { disk.new.host.ghost_name ≡ disk.old.host.ghost_name }
     ensures later { V.faults vault.old ≤ V.faults vault.new }
+    ensures calm { OnOk result (V.faults vault.new ≡ V.faults vault.old) }
     ensures fault { (h : Heap) → (IsTrue (H.tells Role.Work) → IsHeapOf H.Host disk.old.host.now disk.old.rest h × Has h name) →
         IfErr result (IsKeepFault H.Host disk.old.host.now disk.new.host.now (V.faults vault.old) (V.faults vault.new)) }
 {
@@ -143,6 +146,7 @@ fn put_records<H: Host, V: Vault>(
     ensures rest { disk.new.rest ≡ disk.old.rest }
     ensures same_host { disk.new.host.ghost_name ≡ disk.old.host.ghost_name }
     ensures later { V.faults vault.old ≤ V.faults vault.new }
+    ensures calm { OnOk result (V.faults vault.new ≡ V.faults vault.old) }
     ensures fault { (h : Heap) → (IsTrue (H.tells Role.Work) → IsHeapOf H.Host disk.old.host.now disk.old.rest h × All (Has h) names.now) →
         IfErr result (IsKeepFault H.Host disk.old.host.now disk.new.host.now (V.faults vault.old) (V.faults vault.new)) }
 {
@@ -178,6 +182,7 @@ pub(crate) fn write_image<H: Host, V: Vault>(
     ensures rest { disk.new.rest ≡ disk.old.rest }
     ensures same_host { disk.new.host.ghost_name ≡ disk.old.host.ghost_name }
     ensures later { V.faults vault.old ≤ V.faults vault.new }
+    ensures calm { OnOk result (V.faults vault.new ≡ V.faults vault.old) }
     ensures fault { (h : Heap) → (IsTrue (H.tells Role.Work) → IsHeapOf H.Host disk.old.host.now disk.old.rest h × All (Has h) names.now) →
         IfErr result (IsKeepFault H.Host disk.old.host.now disk.new.host.now (V.faults vault.old) (V.faults vault.new)) }
 {

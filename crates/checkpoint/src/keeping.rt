@@ -67,6 +67,7 @@ fn write_beside<H: Host, V: Vault>(
     ensures rest { disk.new.rest ≡ disk.old.rest }
     ensures same_host { disk.new.host.ghost_name ≡ disk.old.host.ghost_name }
     ensures later { V.faults vault.old ≤ V.faults vault.new }
+    ensures calm { OnOk result (V.faults vault.new ≡ V.faults vault.old) }
     ensures fault { (h : Heap) → HoldsNamed H.Host disk.old.host.now disk.old.rest names.now h →
         IfErr result (IsKeepFault H.Host disk.old.host.now disk.new.host.now (V.faults vault.old) (V.faults vault.new)) }
 {
@@ -105,6 +106,7 @@ fn write_next<H: Host, V: Vault>(
     ensures rest { disk.new.rest ≡ disk.old.rest }
     ensures same_host { disk.new.host.ghost_name ≡ disk.old.host.ghost_name }
     ensures later { V.faults vault.old ≤ V.faults vault.new }
+    ensures calm { OnOk result (V.faults vault.new ≡ V.faults vault.old) }
     ensures fault { (h : Heap) → HoldsNamed H.Host disk.old.host.now disk.old.rest names.now h →
         IfErr result (IsKeepFault H.Host disk.old.host.now disk.new.host.now (V.faults vault.old) (V.faults vault.new)) }
 {
@@ -146,6 +148,7 @@ pub fn keep<H: Host, V: Vault>(
     ensures rest { disk.new.rest ≡ disk.old.rest }
     ensures same_host { disk.new.host.ghost_name ≡ disk.old.host.ghost_name }
     ensures later { V.faults vault.old ≤ V.faults vault.new }
+    ensures calm { OnOk result (V.faults vault.new ≡ V.faults vault.old) }
     ensures fault { IfErr result (IsKeepFault H.Host disk.old.host.now disk.new.host.now (V.faults vault.old) (V.faults vault.new)) }
 {
     let names = disk.names(alloc)?;

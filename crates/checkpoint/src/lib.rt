@@ -22,8 +22,9 @@
 //! the gates, the checkpoint among bytes (`found`) and its image (`image_in`). No clause says what a file of the system holds.
 //!
 //! - Proved: Over a vault that tells what it holds, a stop at any moment leaves the last checkpoint or the next one, whole, whatever the
-//!   bytes written since the last sync became. The serial that was answered last never falls. `MemoryVault` fails only where it is told to,
-//!   or where memory past what `reserve` took is refused.
+//!   bytes written since the last sync became. The serial that was answered last never falls. Over every vault: a call answers Ok, want of
+//!   memory, a bad gate or a fault of the disk only where the count of the vault's faults is as it was before. `MemoryVault` fails only where
+//!   it is told to, or where memory past what `reserve` took is refused.
 //! - Tested: Gates of every kind, every call failing in turn, stops within calls (`outside_tests`, `work_tests`).
 //! - Not said: That a fault of the vault outside the list of calls did nothing.
 #![tactic(auto)]

@@ -155,6 +155,7 @@ impl Vault for MemoryVault {
     fn open_named(&mut self, name: &str, fresh: bool) -> Result<(), Failed>
         ensures opened { IsOpened fresh name.now result (state_of self.old) (state_of self.new) }
         ensures cause { HasCause (faults_of self.old) (faults_of self.new) result }
+        ensures calm { OnOk result (faults_of self.new ≡ faults_of self.old) }
         ensures call { OneCall self.old self.new result }
 
         // It needs the name, and where it is fresh a call of the list.
@@ -174,6 +175,7 @@ impl Vault for MemoryVault {
         ensures bytes { OnOk result (buf.new ≡ window (contents_of (state_of self.old)) place (length buf.old)) }
         ensures still { state_of self.new ≡ state_of self.old }
         ensures cause { HasCause (faults_of self.old) (faults_of self.new) result }
+        ensures calm { OnOk result (faults_of self.new ≡ faults_of self.old) }
         ensures call { OneCall self.old self.new result }
 
         // It needs no memory.
@@ -190,6 +192,7 @@ impl Vault for MemoryVault {
     fn write_at(&mut self, place: u64, buf: &[u8]) -> Result<(), Failed>
         ensures written { IsWritten place buf.now result (state_of self.old) (state_of self.new) }
         ensures cause { HasCause (faults_of self.old) (faults_of self.new) result }
+        ensures calm { OnOk result (faults_of self.new ≡ faults_of self.old) }
         ensures call { OneCall self.old self.new result }
 
         // It needs a call of the list, the bytes of its piece, and the contents up to its end.
@@ -209,6 +212,7 @@ impl Vault for MemoryVault {
     fn sync(&mut self) -> Result<(), Failed>
         ensures synced { IsSynced result (state_of self.old) (state_of self.new) }
         ensures cause { HasCause (faults_of self.old) (faults_of self.new) result }
+        ensures calm { OnOk result (faults_of self.new ≡ faults_of self.old) }
         ensures call { OneCall self.old self.new result }
 
         // It needs a call of the list.

@@ -23,6 +23,7 @@ fn read_point<V: Vault>(vault: &mut V, parity: u64) -> Result<Option<Point>, Vau
     ensures valid { IfOk result (λ point. IfSome point IsPoint) }
     ensures still { V.state vault.new ≡ V.state vault.old }
     ensures later { V.faults vault.old ≤ V.faults vault.new }
+    ensures calm { OnOk result (V.faults vault.new ≡ V.faults vault.old) }
     ensures fault { IfErr result (IsGateFault V.tells parity (contents_of (V.state vault.old)) (V.faults vault.old) (V.faults vault.new)) }
 {
     let place = GATE_GAP * parity;
@@ -59,6 +60,7 @@ pub fn recover<V: Vault>(vault: &mut V) -> Result<Option<Point>, VaultFault>
     ensures extends { IsTrue V.tells → Extends (V.state vault.old) (V.state vault.new) }
     ensures stops { IsTrue V.tells → Throughout (V.state vault.old) (V.state vault.new) (MayLeave (V.state vault.old)) }
     ensures later { V.faults vault.old ≤ V.faults vault.new }
+    ensures calm { OnOk result (V.faults vault.new ≡ V.faults vault.old) }
     ensures fault { IfErr result (IsRecoverFault V.tells (contents_of (V.state vault.old)) (V.faults vault.old) (V.faults vault.new)) }
 {
     sync(vault)?;
@@ -94,6 +96,7 @@ fn read_behind<V: Vault>(
     ensures image { IsTrue V.tells → OnOk result (image.new ≡ image.old ++ window (contents_of (V.state vault.old)) place (length block.old)) }
     ensures still { V.state vault.new ≡ V.state vault.old }
     ensures later { V.faults vault.old ≤ V.faults vault.new }
+    ensures calm { OnOk result (V.faults vault.new ≡ V.faults vault.old) }
     ensures fault { IfErr result (IsReadFault (V.faults vault.old) (V.faults vault.new)) }
 {
     read(vault, place, block)?;
@@ -102,7 +105,8 @@ fn read_behind<V: Vault>(
 }
 
 /// The image of a point that `recover` just gave, whole; or as many of its first bytes as a point of this serial with a smaller length says. It
-/// takes room for all before it reads the first block: a length that memory can't hold is want of memory at once. It answers no Bad and no Disk.
+/// takes room for all before it reads the first block: a length that memory can't hold is want of memory at once. It answers no Bad and no Disk,
+/// and Memory only where no call on the vault failed.
 pub fn read_image<V: Vault>(
     alloc: Global,
     vault: &mut V,
@@ -112,6 +116,7 @@ pub fn read_image<V: Vault>(
     ensures image { IsTrue V.tells → IfOk result (λ image. image ≡ image_in (contents_of (V.state vault.old)) point) }
     ensures still { V.state vault.new ≡ V.state vault.old }
     ensures later { V.faults vault.old ≤ V.faults vault.new }
+    ensures calm { OnOk result (V.faults vault.new ≡ V.faults vault.old) }
     ensures fault { IfErr result (IsReadFault (V.faults vault.old) (V.faults vault.new)) }
 {
     let parity = point.serial % 2;

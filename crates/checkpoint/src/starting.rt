@@ -23,6 +23,7 @@ pub fn fresh<V: Vault>(vault: &mut V) -> Result<(), VaultFault>
     ensures synced { IsTrue V.tells → OnOk result (unsynced_of (V.state vault.new) ≡ []) }
     ensures stops { IsTrue V.tells → IsEmpty (V.state vault.old) → Throughout (V.state vault.old) (V.state vault.new) (λ bytes. found bytes ≡ None) }
     ensures later { V.faults vault.old ≤ V.faults vault.new }
+    ensures calm { OnOk result (V.faults vault.new ≡ V.faults vault.old) }
     ensures fault { IfErr result (IsFailed (V.faults vault.old) (V.faults vault.new)) }
 {
     write(vault, 0, &[0])?;

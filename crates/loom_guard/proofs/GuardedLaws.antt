@@ -148,18 +148,18 @@ module _ (tells fewer : Role → Bool) (sub : (role : Role) → IsTrue (fewer ro
 
 -- ---- what was left was written
 
-pub late-ended : (tells : Role → Bool) (told : Bool) (before now : Meanings) (old new : VaultMeanings) (row : Row) (lines : List Line) (g : Guarded) (c : Course) (last : ℕ) (status : Status) → WrittenEnds tells before now row status c
+pub late-ended : (tells : Role → Bool) (told : Bool) (before now : Meanings) (old new : VaultMeanings) (row : Row) (lines : List Line) (g : Guarded) (c : Course) (last : ℕ) (status : Status) → new.faults ≡ old.faults → WrittenEnds tells before now row status c
     → (IsTrue told → HasLast new.state last) → (IsTrue (tells Work) → serial_at (guarded_on lines row.steps g) ≡ last)
     → (IsTrue told → Keeps old.state new.state last (λ serial kept. IsTrue (tells Work) → IsCheckpoint lines row.steps g serial kept))
     → GuardedEnds tells told before now old new row lines g c status
-late-ended tells told before now old new row lines g c last status written has serial stops = let end = written.0 in record {
+late-ended tells told before now old new row lines g c last status calm written has serial stops = let end = written.0 in record {
   stage = end.stage;
   late = end.late;
   uses = end.uses;
   answer = ends-kept end.stage status end.refusal.answer;
   of_run = end.refusal.of_run;
   answered = record { ran = end.refusal.ran; cause = end.refusal.cause; whole = end.refusal.whole; limits = end.refusal.limits };
-  caused = caused-none end.stage status old.faults new.faults end.refusal.answer;
+  caused = caused-none end.stage status old.faults new.faults calm end.refusal.answer;
   untold = end.untold;
   comes = λ work. inl (end.runs work);
   last = last;

@@ -133,10 +133,10 @@ later-read host old now read = later
 pub keep-refused : {H : Type 0} (host : Ghosts H) (old now : H) (before after : ℕ) (f : Fault) → IsKeepFault host old now before after f → IsKeepRefusal host.tells (meanings host old) (meanings host now) before after (status_by_vault f)
 keep-refused host old now before after (fault.Failed count) h = record { ends = tt; cause = tt; whole = λ work damaged. damaged; caused = h }
 keep-refused host old now before after (fault.Bad place) h = absurd h
-keep-refused host old now before after (fault.Disk (disk.Work count)) h = record { ends = tt; cause = h; whole = λ work damaged. damaged; caused = tt }
-keep-refused host old now before after (fault.Disk (disk.Full held room)) h = absurd h
-keep-refused host old now before after (fault.Disk (disk.Damaged place name)) h = record { ends = tt; cause = tt; whole = λ work damaged. h work; caused = tt }
-keep-refused host old now before after fault.Memory h = record { ends = tt; cause = tt; whole = λ work damaged. damaged; caused = tt }
+keep-refused host old now before after (fault.Disk (disk.Work count)) h = record { ends = tt; cause = h.1; whole = λ work damaged. damaged; caused = h.0 }
+keep-refused host old now before after (fault.Disk (disk.Full held room)) h = absurd h.1
+keep-refused host old now before after (fault.Disk (disk.Damaged place name)) h = record { ends = tt; cause = tt; whole = λ work damaged. h.1 work; caused = h.0 }
+keep-refused host old now before after fault.Memory h = record { ends = tt; cause = tt; whole = λ work damaged. damaged; caused = h }
 
 -- since an earlier moment of the host
 pub keep-since : (tells : Role → Bool) (a b c : Meanings) (before after : ℕ) (status : Status) → ((role : Role) → a.faults role ≤ b.faults role) → IsKeepRefusal tells b c before after status → IsKeepRefusal tells a c before after status

@@ -83,19 +83,19 @@ module _ (way : Way) (tells : Role → Bool) (told : Bool) (before : Meanings) (
 
   -- ---- the image or the events weren't read
 
-  pub kept-early : (now : Meanings) (new : VaultMeanings) (result : Status) (point : Option Point) → (way ≡ Guarding → point ≡ None) → (IsTrue told → OpenedOnce vault old.state new.state) → old.faults ≤ new.faults → (IsTrue told → Starts way old.state point new.state)
+  pub kept-early : (now : Meanings) (new : VaultMeanings) (result : Status) (point : Option Point) → (way ≡ Guarding → point ≡ None) → (IsTrue told → OpenedOnce vault old.state new.state) → new.faults ≡ old.faults → (IsTrue told → Starts way old.state point new.state)
       → (way ≡ Resuming → IsLeft Image before now) → (way ≡ Resuming → (count : ℕ) → result ≡ ReadFault Image count → ⊥) → (end : ReadEnds (tells_by way tells) before now row result)
       → (IsTrue (is_told way tells told) → end.stage ≡ Reading → JudgesImage (tells Work) result row.room (image_by way now new.state point))
       → (IsTrue (is_told way tells told) → IsTrue (tells Work) → IsTrue (passes Reading end.stage) → IsRightImage row.room (image_by way now new.state point))
       → KeptRunEnds way tells told before now old new row vault result
-  kept-early now new result point none opened later starts left unread end judges right = record {
+  kept-early now new result point none opened calm starts left unread end judges right = record {
     opened = opened;
     ends = inr (
       end.stage,
       record {
         answer = ends-kept end.stage result end.refusal.answer;
         answered = answered-of way tells before now row end.stage result end.refusal;
-        vault_cause = caused-none end.stage result old.faults new.faults end.refusal.answer;
+        vault_cause = caused-none end.stage result old.faults new.faults calm end.refusal.answer;
         attached = end.uses.attached;
         unused = λ role none. inr (end.uses.unused role none);
         reads = end.reads;
@@ -118,25 +118,25 @@ module _ (way : Way) (tells : Role → Bool) (told : Bool) (before : Meanings) (
     ran = end.refusal.ran;
     untold = end.uses.unused Notes (early-stage (λ stage. IsFalse (reaches Telling stage)) end.stage end.early refl refl refl);
     later = end.uses.later;
-    vault_later = later;
+    vault_later = omega (arith, calm);
   }
 
   -- ---- the machine ran
 
   pub kept-late : (now : Meanings) (start new : VaultMeanings) (result : Status) (point : Option Point) (state : Words) (heap : Heap) (lines : List Line)
-      → (way ≡ Guarding → point ≡ None) → (IsTrue told → OpenedOnce vault old.state start.state) → old.faults ≤ start.faults → start.faults ≤ new.faults → (IsTrue told → Starts way old.state point start.state)
+      → (way ≡ Guarding → point ≡ None) → (IsTrue told → OpenedOnce vault old.state start.state) → start.faults ≡ old.faults → start.faults ≤ new.faults → (IsTrue told → Starts way old.state point start.state)
       → (way ≡ Resuming → IsLeft Image before now) → HasRead (tells_by way tells) now row state heap → HasHeard (tells_by way tells) now row lines
       → (IsTrue (is_told way tells told) → IsTrue (tells Work) → IsRead (image_by way now start.state point) row.room state heap)
       → GuardedEnds (tells_by way tells) told before now start new row lines (guarded_first (serial_of point) [] (model_state state) heap) (guarded_course lines row.steps (serial_of point) (model_state state) heap) result
       → KeptRunEnds way tells told before now old new row vault result
-  kept-late now start new result point state heap lines none opened low high starts left image heard read end = record {
+  kept-late now start new result point state heap lines none opened calm high starts left image heard read end = record {
     opened = λ t. once-extended vault old.state start.state new.state (opened t) (end.stops t).extends;
     ends = inr (
       end.stage,
       record {
         answer = end.answer;
         answered = answered-by way tells before now row result end.answered;
-        vault_cause = vault-since result old.faults start.faults new.faults low end.caused;
+        vault_cause = vault-since result old.faults start.faults new.faults calm end.caused;
         attached = end.uses.attached;
         unused = λ role none. inr (end.uses.unused role none);
         reads = reads-later (tells_by way tells) row now end.stage result state heap lines (λ e. never (subst (λ stage. IsTrue (reaches Running stage)) e end.late)) (λ e. never (subst (λ stage. IsTrue (reaches Running stage)) e end.late)) end.uses.named image heard;
@@ -176,5 +176,5 @@ module _ (way : Way) (tells : Role → Bool) (told : Bool) (before : Meanings) (
     ran = end.answered.ran;
     untold = end.untold;
     later = end.uses.later;
-    vault_later = omega (arith, low, high);
+    vault_later = omega (arith, calm, high);
   }

@@ -34,7 +34,7 @@ use Rattle.loom_guard.specs.Promise.{ComesTo, GuardComes, GuardedOf, HasMoment, 
 use Rattle.loom_guard.specs.Steps.{KeptRunEnds}
 use Rattle.loom_guard.specs.Vaults.{IsVaultFault, IsVaultRefusal, VaultMeanings}
 use Rattle.loom_guard.specs.Ways.{Way, Guarding, Resuming, image_by, row_by, tells_by, verb_by}
-use Rattle.loom_guard.proofs.StatusLaws.{ends-plain, refusal-is}
+use Rattle.loom_guard.proofs.StatusLaws.{calm-caused, ends-plain, refusal-is}
 use Rattle.loom_guard.proofs.WayLaws.{image-left, way-is}
 
 -- ---- what the line leaves
@@ -124,7 +124,7 @@ module _ {way : Way} {told : Bool} {old new : VaultMeanings} (tells : Role → B
   cut-kept {status} fault goes begins at = record {
     answer = tt;
     answered = answered-cut tells before now row rose;
-    vault_cause = tt;
+    vault_cause = calm-caused status old.faults new.faults at.vault_cause fault;
     attached = at.attached;
     unused = at.unused;
     reads = reads-telling (tells_by way tells) row now status (answer.WriteFault Notes (now.faults Notes)) at.reads;
@@ -228,6 +228,10 @@ module _ (way : Way) (tells : Role → Bool) (told : Bool) (before mid now : Mea
         (noted-run status result (row_by way words).steps before mid now run.of_run run.ran run.untold line);
     later = λ role. let first = run.later role in let then = leaves.later role in omega (arith, first, then);
     vault_later = run.vault_later;
+    vault_calm = elim (ends-told line) [
+      | inl refused ↦ calm-caused result old.faults new.faults refused.0.caused
+      | inr at ↦ calm-caused result old.faults new.faults at.1.vault_cause
+    ];
   }
 
 -- ---- words that are no command
@@ -250,6 +254,7 @@ kept-usage tells told before now old words word result bad line leaves = record 
   noted = λ way is notes. let own = noted-own (answer.Usage word) result before now refl line notes in subst (λ s. NotedBy s (HasBegun (row_by way words).steps) before now) (sym own.0) own.1;
   later = leaves.later;
   vault_later = omega arith;
+  vault_calm = λ other. refl;
 }
 
 -- ---- words of other commands
@@ -264,4 +269,5 @@ kept-other tells told before now old words result other promise = record {
   noted = λ way is. no-else way (sym is ∙ other);
   later = promise.later;
   vault_later = omega arith;
+  vault_calm = λ other. refl;
 }

@@ -1,6 +1,5 @@
 -- What is said of each answer of a run with checkpoints.
-use Rattle.std.proofs.Common.{◌≡◌, ℕ, ◌≤◌, Bool, refl, arith}
-use Rattle.long_names.specs.Counting.{Rose}
+use Rattle.std.proofs.Common.{◌≡◌, ℕ, Bool, refl, subst}
 use Rattle.checkpoint.specs.Vault.{VaultState}
 use Rattle.blue_model.specs.Endings.{IsParked}
 use Rattle.blue_model.specs.Logs.{Course}
@@ -11,7 +10,7 @@ use Rattle.loom_run.specs.Steps.{IsOfRun}
 use Rattle.loom_words.specs.declared.status.Status.{Status}
 use Rattle.loom_words.specs.declared.status.Status.TheVariants as answer
 use Rattle.loom_guard.specs.Promise.{EndsKept}
-use Rattle.loom_guard.specs.Vaults.{IsVaultCaused, RefusesVault}
+use Rattle.loom_guard.specs.Vaults.{IsVaultCaused, IsVaultFault, RefusesVault}
 use Rattle.loom_guard.specs.Ways.{Way, Guarding, Resuming}
 
 -- ---- the answers of a stage
@@ -98,55 +97,57 @@ ends-plain Telling status other h = h
 
 -- ---- faults of the vault
 
--- an answer of a run is none
-pub caused-none : (stage : Stage) (status : Status) (before now : ℕ) → Ends stage status → IsVaultCaused status before now
-caused-none stage (answer.Done ran) before now h = tt
-caused-none stage (answer.Quit ran) before now h = tt
-caused-none stage (answer.Made objects) before now h = tt
-caused-none stage (answer.Listed objects) before now h = tt
-caused-none stage (answer.Assembled objects) before now h = tt
-caused-none stage (answer.Usage word) before now h = tt
-caused-none stage (answer.ImageBad rule place) before now h = tt
-caused-none stage (answer.EventsBad line) before now h = tt
-caused-none stage (answer.TextBad line rule) before now h = tt
-caused-none stage (answer.Stuck cause ran) before now h = tt
-caused-none stage (answer.CoreFull ran need) before now h = tt
-caused-none stage (answer.NamesSpent ran) before now h = tt
-caused-none stage (answer.WorkFull live room) before now h = tt
-caused-none stage (answer.ReadFault role count) before now h = tt
-caused-none stage (answer.WorkFault count) before now h = tt
-caused-none stage (answer.WriteFault role count) before now h = tt
-caused-none stage answer.OutOfMemory before now h = tt
-caused-none stage (answer.Damaged place name) before now h = tt
-caused-none stage (answer.VaultFault count) before now h = absurd (vault-never stage count h)
-caused-none stage answer.NoCheckpoint before now h = tt
-caused-none stage (answer.VaultBad place) before now h = tt
+-- an answer of a run is none, where none of its calls failed
+pub caused-none : (stage : Stage) (status : Status) (before now : ℕ) → now ≡ before → Ends stage status → IsVaultCaused status before now
+caused-none stage (answer.Done ran) before now same h = same
+caused-none stage (answer.Quit ran) before now same h = same
+caused-none stage (answer.Made objects) before now same h = same
+caused-none stage (answer.Listed objects) before now same h = same
+caused-none stage (answer.Assembled objects) before now same h = same
+caused-none stage (answer.Usage word) before now same h = same
+caused-none stage (answer.ImageBad rule place) before now same h = same
+caused-none stage (answer.EventsBad line) before now same h = same
+caused-none stage (answer.TextBad line rule) before now same h = same
+caused-none stage (answer.Stuck cause ran) before now same h = same
+caused-none stage (answer.CoreFull ran need) before now same h = same
+caused-none stage (answer.NamesSpent ran) before now same h = same
+caused-none stage (answer.WorkFull live room) before now same h = same
+caused-none stage (answer.ReadFault role count) before now same h = same
+caused-none stage (answer.WorkFault count) before now same h = same
+caused-none stage (answer.WriteFault role count) before now same h = same
+caused-none stage answer.OutOfMemory before now same h = same
+caused-none stage (answer.Damaged place name) before now same h = same
+caused-none stage (answer.VaultFault count) before now same h = absurd (vault-never stage count h)
+caused-none stage answer.NoCheckpoint before now same h = same
+caused-none stage (answer.VaultBad place) before now same h = same
 
-rose-since : (a b c : ℕ) → a ≤ b → Rose b c → Rose a c
-rose-since a b c low h = omega (arith, low, h)
+-- no call failed unless it is one
+pub calm-caused : (status : Status) (before now : ℕ) → IsVaultCaused status before now → (IsVaultFault status → ⊥) → now ≡ before
+calm-caused (answer.Done ran) before now h other = h
+calm-caused (answer.Quit ran) before now h other = h
+calm-caused (answer.Made objects) before now h other = h
+calm-caused (answer.Listed objects) before now h other = h
+calm-caused (answer.Assembled objects) before now h other = h
+calm-caused (answer.Usage word) before now h other = h
+calm-caused (answer.ImageBad rule place) before now h other = h
+calm-caused (answer.EventsBad line) before now h other = h
+calm-caused (answer.TextBad line rule) before now h other = h
+calm-caused (answer.Stuck cause ran) before now h other = h
+calm-caused (answer.CoreFull ran need) before now h other = h
+calm-caused (answer.NamesSpent ran) before now h other = h
+calm-caused (answer.WorkFull live room) before now h other = h
+calm-caused (answer.ReadFault role count) before now h other = h
+calm-caused (answer.WorkFault count) before now h other = h
+calm-caused (answer.WriteFault role count) before now h other = h
+calm-caused answer.OutOfMemory before now h other = h
+calm-caused (answer.Damaged place name) before now h other = h
+calm-caused (answer.VaultFault count) before now h other = absurd (other tt)
+calm-caused answer.NoCheckpoint before now h other = h
+calm-caused (answer.VaultBad place) before now h other = h
 
-pub vault-since : (status : Status) (before mid now : ℕ) → before ≤ mid → IsVaultCaused status mid now → IsVaultCaused status before now
-vault-since (answer.Done ran) before mid now later h = tt
-vault-since (answer.Quit ran) before mid now later h = tt
-vault-since (answer.Made objects) before mid now later h = tt
-vault-since (answer.Listed objects) before mid now later h = tt
-vault-since (answer.Assembled objects) before mid now later h = tt
-vault-since (answer.Usage word) before mid now later h = tt
-vault-since (answer.ImageBad rule place) before mid now later h = tt
-vault-since (answer.EventsBad line) before mid now later h = tt
-vault-since (answer.TextBad line rule) before mid now later h = tt
-vault-since (answer.Stuck cause ran) before mid now later h = tt
-vault-since (answer.CoreFull ran need) before mid now later h = tt
-vault-since (answer.NamesSpent ran) before mid now later h = tt
-vault-since (answer.WorkFull live room) before mid now later h = tt
-vault-since (answer.ReadFault role count) before mid now later h = tt
-vault-since (answer.WorkFault count) before mid now later h = tt
-vault-since (answer.WriteFault role count) before mid now later h = tt
-vault-since answer.OutOfMemory before mid now later h = tt
-vault-since (answer.Damaged place name) before mid now later h = tt
-vault-since (answer.VaultFault count) before mid now later h = (h.0, rose-since before mid now later h.1)
-vault-since answer.NoCheckpoint before mid now later h = tt
-vault-since (answer.VaultBad place) before mid now later h = tt
+-- since an earlier moment, where no call failed until then
+pub vault-since : (status : Status) (before mid now : ℕ) → mid ≡ before → IsVaultCaused status mid now → IsVaultCaused status before now
+vault-since status before mid now same h = subst (λ (n : ℕ). IsVaultCaused status n now) same h
 
 -- ---- a vault that was refused
 

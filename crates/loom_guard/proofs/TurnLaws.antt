@@ -209,11 +209,11 @@ stops-keeping tells before now row lines g c serial status ends ran few done nex
     keeping : IsKeeping (tells Transcript) row.steps lines g c (before.roles Transcript).put (now.roles Transcript).put serial ran
     keeping = record { few = few; said = said; done = done; next = next }
 
-pub keep-halts : {H : Type 0} (host : Ghosts H) (old mid now : H) (vault before after : ℕ) (row : Row) (first : Bool) (events : List Line) (last : ℕ) (cpu then : Cpu) (said : List ℕ) (words state : Words) (h left : Heap) (status : Status)
-    → ((role : Role) → host.faults old role ≤ host.faults mid role) → vault ≤ before → IsKeepRefusal host.tells (meanings host mid) (meanings host now) before after status → IsWorkRead host mid now → then.ran ≤ row.steps
+pub keep-halts : {H : Type 0} (host : Ghosts H) (old mid now : H) (before after : ℕ) (row : Row) (first : Bool) (events : List Line) (last : ℕ) (cpu then : Cpu) (said : List ℕ) (words state : Words) (h left : Heap) (status : Status)
+    → ((role : Role) → host.faults old role ≤ host.faults mid role) → IsKeepRefusal host.tells (meanings host mid) (meanings host now) before after status → IsWorkRead host mid now → then.ran ≤ row.steps
     → ((begun : Meanings) (g : Guarded) (c : Course) → FromDisk host.tells row first events last cpu said words h begun g c → IsKeptIn host.tells (meanings host mid) row.core events g last then state left)
-    → KeptHalts host.tells (meanings host old) (meanings host now) vault after row events (FromDisk host.tells row first events last cpu said words h) last status
-keep-halts host old mid now vault before after row first events last cpu then said words state h left status later vaults refused read few kept = record {
+    → KeptHalts host.tells (meanings host old) (meanings host now) before after row events (FromDisk host.tells row first events last cpu said words h) last status
+keep-halts host old mid now before after row first events last cpu then said words state h left status later refused read few kept = record {
   stage = Running;
   late = inl refl;
   answer = keeping-either (λ status. EndsKept Running status) (λ count. tt) (λ count. tt) (λ place name. tt) tt status refused.ends;
@@ -224,7 +224,7 @@ keep-halts host old mid now vault before after row first events last cpu then sa
     whole = refused.whole;
     limits = keeping-either (λ status. IsPastLimits row status) (λ count. tt) (λ count. tt) (λ place name. tt) tt status refused.ends;
   };
-  caused = vault-since status vault before after vaults refused.caused;
+  caused = refused.caused;
   halts = λ begun g c from. let k = kept begun g c from in stops-keeping host.tells begun (meanings host now) row events g c last status refused.ends then.ran few (done-to-keep events g last k.told then k.parked k.keep) (serial_to_keep events g last k.told then k.parked k.keep) (said-then begun g c from k);
 } where
   said-then : (begun : Meanings) (g : Guarded) (c : Course) → FromDisk host.tells row first events last cpu said words h begun g c → IsKeptIn host.tells (meanings host mid) row.core events g last then state left
@@ -241,7 +241,7 @@ leg-halts tells old now vault row lines P serial status x = record {
   answer = ends-kept x.stage status x.refusal.answer;
   of_run = x.refusal.of_run;
   answered = record { ran = x.refusal.ran; cause = x.refusal.cause; whole = x.refusal.whole; limits = x.refusal.limits };
-  caused = caused-none x.stage status vault vault x.refusal.answer;
+  caused = caused-none x.stage status vault vault refl x.refusal.answer;
   halts = x.of_run;
 }
 
@@ -265,15 +265,15 @@ turn-refused began now last IsImage r e is keeps has =
     subst (λ (x : Result Turn Status). TurnKeeps began now last IsImage x) (sym (q.1 ∙ ap (λ y. Err y) q.2)) (keeps, has)
 
 -- the legs of a run that began at an earlier moment
-pub legs-stop : (tells : Role → Bool) (start old now : Meanings) (first before after : ℕ) (row : Row) (lines : List Line) (P : Meanings → Guarded → Course → Type 0) (c : Course) (last : ℕ) (status : Status) → ((role : Role) → start.faults role ≤ old.faults role) → first ≤ before
+pub legs-stop : (tells : Role → Bool) (start old now : Meanings) (first before after : ℕ) (row : Row) (lines : List Line) (P : Meanings → Guarded → Course → Type 0) (c : Course) (last : ℕ) (status : Status) → ((role : Role) → start.faults role ≤ old.faults role) → before ≡ first
     → KeptHalts tells old now before after row lines P last status → (g : Guarded) → (IsTrue (tells Work) → P start g c) → LegsStop tells start now first after row lines g c last status
-legs-stop tells start old now first before after row lines P c last status later vaults x g from = record {
+legs-stop tells start old now first before after row lines P c last status later calm x g from = record {
   stage = x.stage;
   late = x.late;
   answer = x.answer;
   of_run = x.of_run;
   answered = record { ran = x.answered.ran; cause = cause-since status start.faults old.faults now.faults later x.answered.cause; whole = x.answered.whole; limits = x.answered.limits };
-  caused = vault-since status first before after vaults x.caused;
+  caused = vault-since status first before after calm x.caused;
   halts = λ work. x.halts start g c (from work);
 }
 

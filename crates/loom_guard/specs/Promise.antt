@@ -27,7 +27,7 @@ use Rattle.loom_run.specs.Stages.{Stage, Reading, Running, Ends, passes, reaches
 use Rattle.loom_guard.specs.Checkpoints.{IsCheckpointOf}
 use Rattle.loom_guard.specs.Legs.{WantsMemory}
 use Rattle.loom_guard.specs.Moments.{StopsAt}
-use Rattle.loom_guard.specs.Vaults.{Finds, IsFrom, IsVaultCaused, IsVaultRefusal, KeepsLast, LeavesVault, OpenedOnce, VaultMeanings}
+use Rattle.loom_guard.specs.Vaults.{Finds, IsFrom, IsVaultCaused, IsVaultFault, IsVaultRefusal, KeepsLast, LeavesVault, OpenedOnce, VaultMeanings}
 use Rattle.loom_guard.specs.Ways.{Way, Guarding, Resuming, image_by, is_told, row_by, tells_by, verb_by}
 
 -- ---- the run
@@ -124,3 +124,5 @@ pub record KeptPromise (tells : Role → Bool) (told : Bool) (before now : Meani
   -- No count of faults falls.
   pub later : (role : Role) → before.faults role ≤ now.faults role
   pub vault_later : old.faults ≤ new.faults
+  -- Unless the answer is a fault of the vault, no call on the vault failed, from its opening to the end: the count of its faults is as it was.
+  pub vault_calm : (IsVaultFault result → ⊥) → new.faults ≡ old.faults

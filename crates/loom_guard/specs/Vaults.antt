@@ -76,10 +76,10 @@ KeepsLast s serial status = (IsVaultFault status → ⊥) → HasLast s serial
 
 -- ---- it is refused
 
--- a fault of the vault that is answered has risen, and comes with its count
+-- A fault of the vault that is answered has risen, and comes with its count. With any other answer no call on the vault failed: the count of its faults is as it was.
 abbrev pub IsVaultCaused : Status → ℕ → ℕ → Type 0
 IsVaultCaused (VaultFault count) before now = (count ≡ now) × Rose before now
-IsVaultCaused _ before now = Unit {0}
+IsVaultCaused _ before now = now ≡ before
 
 -- By a fault of the vault; or a resumed run found no checkpoint, or a gate that is bad, or had no memory for the image. Where the vault tells what it
 -- held when it was opened, that says which.
@@ -90,7 +90,7 @@ RefusesVault Resuming told old (VaultBad place) = IsTrue told → bad_place (con
 RefusesVault Resuming told old OutOfMemory = IsTrue told → (bad_place (contents_of old) ≡ None) × IsSome (found (contents_of old))
 RefusesVault _ told old _ = ⊥
 
--- and a fault comes with its cause
+-- and a fault comes with its cause; with any other answer no call failed
 pub record IsVaultRefusal (way : Way) (told : Bool) (old new : VaultMeanings) (status : Status) : Type 0 where
   pub refuses : RefusesVault way told old.state status
   pub caused : IsVaultCaused status old.faults new.faults

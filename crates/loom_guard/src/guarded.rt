@@ -88,6 +88,7 @@ fn take_turn<H: Host, V: Vault, O: Observer>(
     ensures file { IsTrue (H.tells role.Work) → IsSameFile (H.roles host.old role.Work) (H.roles host.new role.Work) }
     ensures others { LeavesBut (roles_at Running) (meanings H.Host host.old) (meanings H.Host host.new) }
     ensures later { V.faults vault.old ≤ V.faults vault.new }
+    ensures calm { OnOk result (V.faults vault.new ≡ V.faults vault.old) }
     ensures ends { IfErr result (KeptHalts H.tells (meanings H.Host host.old) (meanings H.Host host.new) (V.faults vault.old) (V.faults vault.new) (row_for command.now) events.now
         (FromDisk H.tells (row_for command.now) first events.now (keeping.serial_of last) cpu.old (H.roles host.old role.Transcript).put loaded.now.state (heap_on H.Host host.old rest loaded.now.next)) (keeping.serial_of last)) }
 {
@@ -144,6 +145,7 @@ pub(crate) fn run_legs<H: Host, V: Vault, O: Observer>(
     ensures file { IsTrue (H.tells role.Work) → IsSameFile (H.roles host.old role.Work) (H.roles host.new role.Work) }
     ensures others { LeavesBut (roles_at Running) (meanings H.Host host.old) (meanings H.Host host.new) }
     ensures vault_later { V.faults vault.old ≤ V.faults vault.new }
+    ensures calm { OnOk result (V.faults vault.new ≡ V.faults vault.old) }
 {
     let mut cpu = Cpu::at_rest();
     let mut disk = rest;

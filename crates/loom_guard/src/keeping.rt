@@ -1,5 +1,5 @@
 // What a leg left is kept, and is what the next leg begins with.
-ghost use Rattle.std.specs.Prelude.{◌≡◌, ◌+◌, ◌%◌, ◌<◌, ◌≤◌, IfErr, IfOk, IsTrue, Some};
+ghost use Rattle.std.specs.Prelude.{◌≡◌, ◌+◌, ◌%◌, ◌<◌, ◌≤◌, IfErr, IfOk, IsTrue, OnOk, Some};
 ghost use Rattle.long_names.specs.Heap.{Heap};
 ghost use Rattle.long_names.specs.Kept.{kept, no_roots};
 ghost use Rattle.loom_host.specs.Work.{IsWorkRead};
@@ -65,6 +65,7 @@ fn keep_disk<H: Host, V: Vault>(
     ensures rest { disk.new.rest ≡ disk.old.rest }
     ensures same_host { disk.new.host.ghost_name ≡ disk.old.host.ghost_name }
     ensures later { V.faults vault.old ≤ V.faults vault.new }
+    ensures calm { OnOk result (V.faults vault.new ≡ V.faults vault.old) }
     ensures refused { IfErr result (IsKeepRefusal H.tells (meanings H.Host disk.old.host.now) (meanings H.Host disk.new.host.now) (V.faults vault.old) (V.faults vault.new)) }
 {
     let kept = match kept_state(disk, state) {
@@ -110,6 +111,7 @@ pub(crate) fn keep_point<H: Host, V: Vault>(
     ensures extends { IsTrue V.tells → Extends (V.state vault.old) (V.state vault.new) }
     ensures read { IsWorkRead H.Host host.old host.new }
     ensures later { V.faults vault.old ≤ V.faults vault.new }
+    ensures calm { OnOk result (V.faults vault.new ≡ V.faults vault.old) }
     ensures refused { IfErr result (IsKeepRefusal H.tells (meanings H.Host host.old) (meanings H.Host host.new) (V.faults vault.old) (V.faults vault.new)) }
 {
     let mut disk = DiskObjects::again(host, rest);

@@ -2,7 +2,8 @@
 //!
 //! `loom_kept` does what `loom` of loom_run does, and two commands more, over any host and any vault. What every answer says is the record `KeptPromise`: read
 //! `specs/Promise.antt` first. What it says of the vault is the theorem on stops: from when the checkpoint was found that a run begins with, a stop at any moment
-//! leaves the checkpoint that was answered last, or the one that was under way, whole, and no other.
+//! leaves the checkpoint that was answered last, or the one that was under way, whole, and no other. Unless the answer is a fault of
+//! the vault, no call on the vault failed (`vault_calm`).
 //!
 //!     let status = loom_kept(alloc, host, vault, &words);   // guard IMAGE EVENTS WORK SAVED DISPLAY CORE ENTRIES ROOM STEPS VAULT,
 //!     ExitCode::from(status.code())                         // resume VAULT EVENTS WORK SAVED DISPLAY CORE ENTRIES ROOM STEPS, or words of `loom`
@@ -15,10 +16,10 @@
 //! `loom_kept_observed` is `loom_kept` with an `Observer` of machine_run, who is told how far a run is, through all its legs.
 //!
 //! - Proved: The record `KeptPromise` and the headlines are the clauses of `loom_kept`, over every host and vault: a stop at any moment
-//!   leaves the checkpoint that was answered last, or the next one (`docs/PROMISE.md`).
+//!   leaves the checkpoint that was answered last, or the next one, and no call on the vault failed unless a fault of the vault is answered
+//!   (`docs/PROMISE.md`).
 //! - Tested: Stops at each call on the vault, gates, refusals (`guard_tests`); kills and faults on real files (`tests/all.sh`).
-//! - Not said: That out of memory has a cause: a call on the vault that failed and left the last checkpoint as it was may be answered so.
-//!   Over a host that doesn't tell Work: what was kept.
+//! - Not said: That out of memory has a cause. Over a host that doesn't tell Work: what was kept.
 #![tactic(auto)]
 
 mod guarded;

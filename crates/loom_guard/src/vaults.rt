@@ -32,6 +32,7 @@ pub(crate) fn open_fresh<V: Vault>(vault: &mut V, name: &str) -> Result<(), Stat
     ensures found { IsTrue V.tells → OnOk result (IsNew (V.state vault.old) (V.state vault.new)) }
     ensures last { IsTrue V.tells → OnOk result (IsLast (V.state vault.new) None) }
     ensures later { V.faults vault.old ≤ V.faults vault.new }
+    ensures calm { OnOk result (V.faults vault.new ≡ V.faults vault.old) }
     ensures left { IsTrue V.tells → OnErr result (LeavesVault Guarding (V.state vault.old) (V.state vault.new)) }
     ensures refused { IfErr result (IsVaultRefusal Guarding V.tells (vault_meanings V.Vault vault.old) (vault_meanings V.Vault vault.new)) }
 {
@@ -61,6 +62,7 @@ fn read_telling<V: Vault>(
     ensures most { IsTrue V.tells → IfOk result (λ image. length image ≤ LONGEST_RECORD * room + (FRONT + 4)) }
     ensures still { V.state vault.new ≡ V.state vault.old }
     ensures later { V.faults vault.old ≤ V.faults vault.new }
+    ensures calm { OnOk result (V.faults vault.new ≡ V.faults vault.old) }
     ensures fault { IfErr result (IsReadFault (V.faults vault.old) (V.faults vault.new)) }
 {
     let serial = point.serial;
@@ -90,6 +92,7 @@ pub(crate) fn open_kept<V: Vault>(
     ensures point { IfOk result (λ r. IsPoint r.0) }
     ensures image { IsTrue V.tells → IfOk result (λ r. TellsOf room r.1 (image_in (contents_of (V.state vault.old)) r.0)) }
     ensures later { V.faults vault.old ≤ V.faults vault.new }
+    ensures calm { OnOk result (V.faults vault.new ≡ V.faults vault.old) }
     ensures left { IsTrue V.tells → OnErr result (LeavesVault Resuming (V.state vault.old) (V.state vault.new)) }
     ensures refused { IfErr result (IsVaultRefusal Resuming V.tells (vault_meanings V.Vault vault.old) (vault_meanings V.Vault vault.new)) }
 {

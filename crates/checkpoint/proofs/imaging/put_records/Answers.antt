@@ -28,7 +28,7 @@ loop-i-init g c = record {
   most = omega arith;
   parity = refl;
   spares = λ told. spares-still _ _ _ refl;
-  later = omega arith;
+  calm = refl;
 }
 
 pub loop-i-preserved : goal.loop-i-preserved
@@ -48,7 +48,7 @@ loop-i-preserved g c = record {
   most = omega (arith, c.loop-i.invariant.most, c.in_ok-put_record.ensures.most);
   parity = c.in_ok-put_record.ensures.parity ∙ c.loop-i.invariant.parity;
   spares = λ told. apart-then _ _ _ _ _ c.loop-i.invariant.parity (c.loop-i.invariant.spares told) (c.in_ok-put_record.ensures.spares told);
-  later = omega (arith, c.loop-i.invariant.later, c.in_ok-put_record.ensures.later);
+  calm = c.in_ok-put_record.ensures.calm ∙ c.loop-i.invariant.calm;
 }
 
 pub returns-in_err-put_record-clause-spares : goal.returns-in_err-put_record-clause-spares
@@ -60,7 +60,7 @@ returns-in_err-put_record-clause-read g c = read_then g.H.Host _ _ _ c.loop-i.in
 pub returns-in_err-put_record-clause-fault : goal.returns-in_err-put_record-clause-fault
 returns-in_err-put_record-clause-fault g c = λ h p.
     let e = err_from_is_err_and c.from_residual.result c.from_residual.ensures.1 in
-    rw (e.1, e.2) (kept-later g.H.Host c.args.disk.now.host.now c.loop-i.disk.host.now _ (g.V.Vault.faults c.args.vault.now) (g.V.Vault.faults c.loop-i.vault) _ _ c.loop-i.invariant.read c.loop-i.invariant.later
+    rw (e.1, e.2) (kept-later g.H.Host c.args.disk.now.host.now c.loop-i.disk.host.now _ (g.V.Vault.faults c.args.vault.now) (g.V.Vault.faults c.loop-i.vault) _ _ c.loop-i.invariant.read c.loop-i.invariant.calm
     (c.in_err-put_record.ensures.fault h (λ told. (
       same_heap g.H.Host c.args.disk.now.host.now c.loop-i.disk.host.now c.args.disk.now.rest c.loop-i.disk.rest h (c.loop-i.invariant.read.roles Work) c.loop-i.invariant.rest (p told).0,
       all_at (Has h) c.args.names.now c.loop-i.i c.item-name.result.now (p told).1 c.item-name.ensures,

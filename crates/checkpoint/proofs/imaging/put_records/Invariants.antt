@@ -23,5 +23,5 @@ invariant-loop-i g l = record {
   most : len_of l.area ≤ len_of l.fn.area + l.i * LONGEST_RECORD;
   parity : l.area.parity ≡ l.fn.area.parity;
   spares : IsTrue g.V.Vault.tells → Spares (IsApart l.fn.area.parity) (g.V.Vault.state l.fn.vault) (g.V.Vault.state l.vault);
-  later : g.V.Vault.faults l.fn.vault ≤ g.V.Vault.faults l.vault;
+  calm : g.V.Vault.faults l.vault ≡ g.V.Vault.faults l.fn.vault;
 }

@@ -19,7 +19,7 @@ pub returns-in_err-put_records-clause-fault : goal.returns-in_err-put_records-cl
 returns-in_err-put_records-clause-fault g c = λ h p.
     let e = err_from_is_err_and c.from_residual-in_err-put_records.result c.from_residual-in_err-put_records.ensures.1 in
     rw (e.1, e.2) (kept-later g.H.Host c.args.disk.now.host.now c.args.disk.now.host.now c.put_records.new.disk.host.now (g.V.Vault.faults c.args.vault.now) (g.V.Vault.faults c.put_head.new.vault) _ _
-    (read-still g.H.Host c.args.disk.now.host.now) c.in_ok-put_head.ensures.later (c.in_err-put_records.ensures.fault h p))
+    (read-still g.H.Host c.args.disk.now.host.now) c.in_ok-put_head.ensures.calm (c.in_err-put_records.ensures.fault h p))
 
 pub returns-in_err-finish-clause-spares : goal.returns-in_err-finish-clause-spares
 returns-in_err-finish-clause-spares g c told =

@@ -9,7 +9,8 @@ use Rattle.checkpoint.specs.Inside.{image_text}
 use Rattle.checkpoint.specs.Keeping.{serial_of}
 use Rattle.checkpoint.specs.Vault.{contents_of}
 use Rattle.checkpoint.specs.declared.fault.VaultFault.TheVariants as fault
-use Rattle.checkpoint.proofs.KeepDisk.{keep-fault-later, names-fault, read-few, read-named, read-stands, read-text, stops-text}
+use Rattle.checkpoint.proofs.ImagingLaws.{kept-later}
+use Rattle.checkpoint.proofs.KeepDisk.{names-fault, read-few, read-named, read-stands, read-text, stops-text}
 use Rattle.checkpoint.proofs.KeepLaws.{leaves-last, still-stops}
 use Rattle.checkpoint.proofs.MomentLaws.{extends-still}
 use Rattle.checkpoint.proofs.keeping.keep.Goals as goal
@@ -35,7 +36,7 @@ returns-in_err-names-clause-extends g c told = extends-still _ _ refl
 pub returns-in_err-names-clause-fault : goal.returns-in_err-names-clause-fault
 returns-in_err-names-clause-fault g c =
     let p = err_from_is_err_and c.from_residual.result c.from_residual.ensures.1 in
-    rw (p.1, p.2) (names-fault g.H.Host c.args.disk.now.host.now c.names.new.self.host.now c.args.disk.now.rest _ _ c.in_err-names.field-0.0 c.in_err-names.ensures.fault)
+    rw (p.1, p.2) (names-fault g.H.Host c.args.disk.now.host.now c.names.new.self.host.now c.args.disk.now.rest (g.V.Vault.faults c.args.vault.now) c.in_err-names.field-0.0 c.in_err-names.ensures.fault)
 
 pub returns-in_err-buf-clause-point : goal.returns-in_err-buf-clause-point
 returns-in_err-buf-clause-point g c = let p = err_from_is_err_and c.from_residual-in_err-buf.result c.from_residual-in_err-buf.ensures.1 in rw p.1 tt
@@ -58,7 +59,7 @@ returns-in_err-buf-clause-extends g c told = extends-still _ _ refl
 pub returns-in_err-buf-clause-fault : goal.returns-in_err-buf-clause-fault
 returns-in_err-buf-clause-fault g c =
     let p = err_from_is_err_and c.from_residual-in_err-buf.result c.from_residual-in_err-buf.ensures.1 in
-    rw (p.1, p.2) (tt)
+    rw (p.1, p.2) refl
 
 pub returns-in_err-kept-clause-point : goal.returns-in_err-kept-clause-point
 returns-in_err-kept-clause-point g c = let p = err_from_is_err_and c.from_residual-in_err-kept.result c.from_residual-in_err-kept.ensures.1 in rw p.1 tt
@@ -81,9 +82,8 @@ returns-in_err-kept-clause-extends g c told = extends-still _ _ refl
 pub returns-in_err-kept-clause-fault : goal.returns-in_err-kept-clause-fault
 returns-in_err-kept-clause-fault g c =
     let p = err_from_is_err_and c.from_residual-in_err-kept.result c.from_residual-in_err-kept.ensures.1 in
-    rw (p.1, p.2) (keep-fault-later g.H.Host c.args.disk.now.host.now c.names.new.self.host.now c.kept_state.new.disk.host.now (g.V.Vault.faults c.args.vault.now)
-    (g.V.Vault.faults c.args.vault.now) (fault.Disk c.in_err-kept.field-0.0)
-    c.names.ensures.read c.in_err-kept.ensures.fault)
+    rw (p.1, p.2) (kept-later g.H.Host c.args.disk.now.host.now c.names.new.self.host.now c.kept_state.new.disk.host.now (g.V.Vault.faults c.args.vault.now) (g.V.Vault.faults c.args.vault.now)
+    (g.V.Vault.faults c.args.vault.now) (fault.Disk c.in_err-kept.field-0.0) c.names.ensures.read refl (refl, c.in_err-kept.ensures.fault))
 
 pub returns-in_err-kept-clause-read : goal.returns-in_err-kept-clause-read
 returns-in_err-kept-clause-read g c = read_then g.H.Host _ _ _ c.names.ensures.read c.kept_state.ensures.read
@@ -155,8 +155,8 @@ returns-clause-same_host g c = c.write_next.ensures.same_host ∙ c.kept_state.e
 pub returns-clause-fault : goal.returns-clause-fault
 returns-clause-fault g c =
     IfErr-weaker c.write_next.result _ _
-    (λ f is. keep-fault-later g.H.Host c.args.disk.now.host.now c.kept_state.new.disk.host.now c.write_next.new.disk.host.now _ _ f
-    (read_then g.H.Host _ _ _ c.names.ensures.read c.kept_state.ensures.read) is)
+    (λ f is. kept-later g.H.Host c.args.disk.now.host.now c.kept_state.new.disk.host.now c.write_next.new.disk.host.now _ (g.V.Vault.faults c.args.vault.now) _ f
+    (read_then g.H.Host _ _ _ c.names.ensures.read c.kept_state.ensures.read) refl is)
     (c.write_next.ensures.fault (disk_heap g.H.Host c.args.disk.now.host.now c.args.disk.now.rest c.args.next)
     (read-named g.H.Host c.args.disk.now.host.now c.names.new.self.host.now c.kept_state.new.disk.host.now
     c.args.disk.now.rest c.names.new.self.rest c.kept_state.new.disk.rest c.args.next c.args.state.now c.in_ok-kept.kept c.in_ok-names.names

@@ -4,7 +4,7 @@ use Rattle.loom_host.specs.declared.outside.Role.TheVariants.{Work}
 use Rattle.disk_objects.specs.Disk.{disk_held}
 use Rattle.checkpoint.specs.Inside.{image_text}
 use Rattle.checkpoint.specs.Keeping.{serial_of}
-use Rattle.checkpoint.proofs.KeepDisk.{keep-fault-before}
+use Rattle.checkpoint.proofs.ImagingLaws.{kept-later, read-still}
 use Rattle.checkpoint.proofs.KeepLaws.{all-last, all-stops, all-text, closing-stops, failed-leaves, leaves-last, still-stops, written-stops}
 use Rattle.checkpoint.proofs.keeping.write_next.Goals as goal
 
@@ -37,7 +37,8 @@ returns-in_err-point-clause-stops g c h named told =
 pub returns-in_err-point-clause-fault : goal.returns-in_err-point-clause-fault
 returns-in_err-point-clause-fault g c h named =
     let p = err_from_is_err_and c.from_residual-in_err-point.result c.from_residual-in_err-point.ensures.1 in
-    rw (p.1, p.2) (keep-fault-before g.H.Host _ _ _ _ _ c.in_err-point.field-0.0 c.in_ok-close_gate.ensures.later (c.in_err-point.ensures.fault h named))
+    rw (p.1, p.2) (kept-later g.H.Host c.args.disk.now.host.now c.args.disk.now.host.now c.write_beside.new.disk.host.now (g.V.Vault.faults c.args.vault.now) (g.V.Vault.faults c.close_gate.new.vault)
+    (g.V.Vault.faults c.write_beside.new.vault) c.in_err-point.field-0.0 (read-still g.H.Host c.args.disk.now.host.now) c.in_ok-close_gate.ensures.calm (c.in_err-point.ensures.fault h named))
 
 pub returns-in_err-open_gate-clause-stops : goal.returns-in_err-open_gate-clause-stops
 returns-in_err-open_gate-clause-stops g c h named told =

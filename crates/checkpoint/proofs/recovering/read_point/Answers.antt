@@ -5,6 +5,7 @@ use Rattle.checkpoint.proofs.recovering.read_point.Goals as goal
 
 pub returns-then-is_bad-clause-fault : goal.returns-then-is_bad-clause-fault
 returns-then-is_bad-clause-fault g c = (
+  c.in_ok-read.ensures.calm,
   refl,
   λ told. ap (is_bad c.args.parity) (sym (c.new-gate.ensures ∙ gate-read _ _ _ (c.in_ok-read.ensures.bytes told))) ∙ sym c.is_bad.ensures ∙ c.if-is_bad.true,
 )

@@ -1,4 +1,4 @@
-use Rattle.std.proofs.Common.{refl, ◌∙◌, arith}
+use Rattle.std.proofs.Common.{refl, ◌∙◌}
 use Rattle.std.proofs.lemmas.Result.{err_from_is_err_and}
 use Rattle.checkpoint.proofs.RecoverLaws.{contents-still, first-fault, found-by, none-bad, second-fault, sure-bad, synced-leaves}
 use Rattle.checkpoint.proofs.SureLaws.{unsynced-synced}
@@ -19,7 +19,7 @@ returns-in_err-first-clause-stops g c told = synced-leaves _ _ _ _ (c.in_ok-sync
 pub returns-in_err-first-clause-fault : goal.returns-in_err-first-clause-fault
 returns-in_err-first-clause-fault g c =
     let p = err_from_is_err_and c.from_residual-in_err-first.result c.from_residual-in_err-first.ensures.1 in
-    rw (p.1, p.2) (first-fault _ _ _ _ _ _ _ c.in_ok-sync.ensures.later (λ told. contents-still _ _ _ _ (c.in_ok-sync.ensures.synced told) refl) c.in_err-first.ensures.fault)
+    rw (p.1, p.2) (first-fault _ _ _ _ _ _ _ c.in_ok-sync.ensures.calm (λ told. contents-still _ _ _ _ (c.in_ok-sync.ensures.synced told) refl) c.in_err-first.ensures.fault)
 
 pub returns-in_err-first-clause-bad_synced : goal.returns-in_err-first-clause-bad_synced
 returns-in_err-first-clause-bad_synced g c told =
@@ -42,7 +42,7 @@ returns-in_err-second-clause-stops g c told =
 pub returns-in_err-second-clause-fault : goal.returns-in_err-second-clause-fault
 returns-in_err-second-clause-fault g c =
     let p = err_from_is_err_and c.from_residual-in_err-second.result c.from_residual-in_err-second.ensures.1 in
-    rw (p.1, p.2) (second-fault _ _ _ _ _ _ _ _ (omega (arith, c.in_ok-sync.ensures.later, c.in_ok-first.ensures.later))
+    rw (p.1, p.2) (second-fault _ _ _ _ _ _ _ _ (c.in_ok-first.ensures.calm ∙ c.in_ok-sync.ensures.calm)
     (λ told. contents-still _ _ _ _ (c.in_ok-sync.ensures.synced told) refl) (λ told. contents-still _ _ _ _ (c.in_ok-sync.ensures.synced told) c.in_ok-first.ensures.still)
     c.in_ok-first.ensures.whole c.in_err-second.ensures.fault)
 

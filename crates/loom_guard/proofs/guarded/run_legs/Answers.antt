@@ -36,7 +36,7 @@ turns-init g c =
       keeps = λ told. keeps-still (g.V.Vault.state c.args.vault.now) c.args.last (IsKeptImage (host.tells Work) lines row.steps (guarded_first last (host.roles old Transcript).put (model_state x.state) (heap_on host old c.args.rest x.next))) (c.requires.last told);
       file = λ work. refl;
       others = leaves-all (roles_at Running) (meanings host old);
-      later = omega arith;
+      calm = refl;
     }
 
 -- ---- the machine was kept
@@ -65,7 +65,7 @@ turns-preserved g c =
       keeps = λ told. (let keeps = (subst (λ (t : Turn). TurnKeeps (g.V.Vault.state c.args.vault.now) (g.V.Vault.state c.take_turn.new.vault) c.turns.kept (IsKeptImage (host.tells Work) lines row.steps run) (Ok t)) c.in-Ok-Kept.field-0-is (c.in-Ok-Kept.ensures.vault told (g.V.Vault.state c.args.vault.now) (meanings host old) run course inv.from (inv.keeps told))) in keeps.0);
       file = λ work. file-then (host.roles old Work) (host.roles mid Work) (host.roles new Work) (inv.file work) (c.take_turn.ensures.file work);
       others = leaves-then (roles_at Running) (meanings host old) (meanings host mid) (meanings host new) inv.others c.take_turn.ensures.others;
-      later = (let low = inv.later in let high = c.take_turn.ensures.later in omega (arith, low, high));
+      calm = c.in-Ok-Kept.ensures.calm ∙ inv.calm;
     }
 
 pub turns-smaller : goal.turns-smaller
@@ -122,7 +122,8 @@ returns-in-Ok-Ended g c =
           );
       file = λ work. file-then (host.roles old Work) (host.roles mid Work) (host.roles new Work) (inv.file work) (c.take_turn.ensures.file work);
       others = leaves-then (roles_at Running) (meanings host old) (meanings host mid) (meanings host new) inv.others c.take_turn.ensures.others;
-      vault_later = (let low = inv.later in let high = c.take_turn.ensures.later in omega (arith, low, high));
+      vault_later = (let calm = inv.calm in let high = c.take_turn.ensures.later in omega (arith, calm, high));
+      calm = c.in-Ok-Ended.ensures.calm ∙ inv.calm;
     }
 
 -- ---- it was stopped
@@ -156,10 +157,11 @@ returns-in-Err g c =
           λ told. (c.in-Err.ensures.vault told (g.V.Vault.state c.args.vault.now) (meanings host old) run course inv.from (inv.keeps told)).1,
           stop-first host.tells (meanings host old) (meanings host new) (g.V.Vault.faults c.args.vault.now) (g.V.Vault.faults c.take_turn.new.vault) row lines (serial_of c.args.last) said (model_state x.state) heap course (serial_of c.turns.kept) c.in-Err.status
               (legs-stop host.tells (meanings host old) (meanings host mid) (meanings host new) (g.V.Vault.faults c.args.vault.now) (g.V.Vault.faults c.turns.vault) (g.V.Vault.faults c.take_turn.new.vault) row lines (FromDisk host.tells row c.turns.first lines (serial_of c.turns.kept) c.turns.cpu (host.roles mid Transcript).put c.turns.image.state (heap_on host mid c.turns.disk c.turns.image.next))
-              course (serial_of c.turns.kept) c.in-Err.status inv.others.later inv.later c.in-Err.ensures.ends run inv.from),
+              course (serial_of c.turns.kept) c.in-Err.status inv.others.later inv.calm c.in-Err.ensures.ends run inv.from),
         ),
       );
       file = λ work. file-then (host.roles old Work) (host.roles mid Work) (host.roles new Work) (inv.file work) (c.take_turn.ensures.file work);
       others = leaves-then (roles_at Running) (meanings host old) (meanings host mid) (meanings host new) inv.others c.take_turn.ensures.others;
-      vault_later = (let low = inv.later in let high = c.take_turn.ensures.later in omega (arith, low, high));
+      vault_later = (let calm = inv.calm in let high = c.take_turn.ensures.later in omega (arith, calm, high));
+      calm = tt;
     }

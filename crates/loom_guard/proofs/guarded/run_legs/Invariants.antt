@@ -30,7 +30,7 @@ invariant-turns g l = record {
       (IsKeptImage (g.H.Host.tells Work) l.events l.command.steps (guarded_first (serial_of l.fn.last) (g.H.Host.roles l.fn.host Transcript).put (model_state l.fn.loaded.state) (heap_on g.H.Host l.fn.host l.fn.rest l.fn.loaded.next)));
   file : IsTrue (g.H.Host.tells Work) → IsSameFile (g.H.Host.roles l.fn.host Work) (g.H.Host.roles l.host Work);
   others : LeavesBut (roles_at Running) (meanings g.H.Host l.fn.host) (meanings g.H.Host l.host);
-  later : g.V.Vault.faults l.fn.vault ≤ g.V.Vault.faults l.vault;
+  calm : g.V.Vault.faults l.vault ≡ g.V.Vault.faults l.fn.vault;
 }
 
 abbrev pub decreases-turns : goal.decreases-turns

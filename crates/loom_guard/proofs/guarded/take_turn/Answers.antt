@@ -1,4 +1,4 @@
-use Rattle.std.proofs.Common.{◌≡◌, ℕ, ◌<◌, IsTrue, refl, sym, ◌∙◌, ap, subst, arith}
+use Rattle.std.proofs.Common.{◌≡◌, ℕ, ◌<◌, IsTrue, refl, sym, ◌∙◌, ap, subst}
 use Rattle.long_names.specs.Heap.{Heap}
 use Rattle.loom_host.specs.declared.outside.Role.TheVariants.{Work, Transcript}
 use Rattle.image_reader.specs.Loaded.{heap_on}
@@ -103,7 +103,7 @@ returns-in_err-rest-in-Kept-clause-ends g c =
     let after = g.V.Vault.faults c.keep_point.new.vault in
     let status = c.in_err-rest-in-Kept.field-0.0 in
     fault_exit (KeptHalts host.tells (meanings host old) (meanings host new) before after row c.args.events.now (FromDisk host.tells row c.args.first c.args.events.now last c.args.cpu.now said x.state heap) last) c.from_residual-in_err-rest-in-Kept.result status c.from_residual-in_err-rest-in-Kept.ensures.1
-    (keep-halts host old mid new before before after row c.args.first c.args.events.now last c.args.cpu.now then said x.state state heap left status c.run_stretch.ensures.others.later (omega arith) c.in_err-rest-in-Kept.ensures.refused c.keep_point.ensures.read c.run_stretch.ensures.few kept)
+    (keep-halts host old mid new before after row c.args.first c.args.events.now last c.args.cpu.now then said x.state state heap left status c.run_stretch.ensures.others.later c.in_err-rest-in-Kept.ensures.refused c.keep_point.ensures.read c.run_stretch.ensures.few kept)
 
 -- ---- it was kept
 

@@ -36,7 +36,7 @@ returns-in-Err-clause-refused g c =
     let old = c.args.disk.now.host.now in
     let now = c.kept_state.new.disk.host.now in
     let faults = g.V.Vault.faults c.args.vault.now in
-    subst (λ (s : Status). IsKeepRefusal host.tells (meanings host old) (meanings host now) faults faults s) (sym c.status_of_vault.ensures) (keep-refused host old now faults faults (fault.Disk c.in-Err.fault) c.in-Err.ensures.fault)
+    subst (λ (s : Status). IsKeepRefusal host.tells (meanings host old) (meanings host now) faults faults s) (sym c.status_of_vault.ensures) (keep-refused host old now faults faults (fault.Disk c.in-Err.fault) (refl, c.in-Err.ensures.fault))
 
 -- ---- it was kept, or not
 

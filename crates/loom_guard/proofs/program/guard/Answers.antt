@@ -20,7 +20,7 @@ returns-in-Err-read_all g c = record {
   ends =
       let end = c.in-Err-read_all.ensures.ends in
       kept-early Guarding g.H.Host.tells g.V.Vault.tells (meanings g.H.Host c.args.host.now) (vault_meanings g.V.Vault c.args.vault.now) (row_for c.args.guarded.now.command) c.args.guarded.now.vault.now
-      (meanings g.H.Host c.read_all.new.host) (vault_meanings g.V.Vault c.open_fresh.new.vault) c.in-Err-read_all.status None (λ e. refl) c.open_fresh.ensures.opened c.open_fresh.ensures.later
+      (meanings g.H.Host c.read_all.new.host) (vault_meanings g.V.Vault c.open_fresh.new.vault) c.in-Err-read_all.status None (λ e. refl) c.open_fresh.ensures.opened c.in_default.ensures.calm
       (λ told. record { from = refl; finds = c.in_default.ensures.found told; last = c.in_default.ensures.last told }) (λ e. absurd (cc)) (λ e. absurd (cc)) end (λ image at. end.reads.judges_image image at) (λ image work past. end.reads.right_image image work past);
 }
 
@@ -38,7 +38,7 @@ returns-in-Ok g c = record {
       let image = read-left host.tells before row mid now read.loaded.state _ (others.others Image (λ e. cc, (λ e. cc, (λ e. cc, (λ e. cc, tt))))).state came.read in
       kept-late Guarding host.tells g.V.Vault.tells before (vault_meanings g.V.Vault c.args.vault.now) row c.args.guarded.now.vault.now
       now (vault_meanings g.V.Vault c.open_fresh.new.vault) (vault_meanings g.V.Vault c.run_guarded.new.vault) c.run_guarded.result None read.loaded.state _ read.events (λ e. refl)
-      c.open_fresh.ensures.opened c.open_fresh.ensures.later c.run_guarded.ensures.vault_later (λ told. record { from = refl; finds = c.in_default.ensures.found told; last = c.in_default.ensures.last told }) (λ e. absurd (cc))
+      c.open_fresh.ensures.opened c.in_default.ensures.calm c.run_guarded.ensures.vault_later (λ told. record { from = refl; finds = c.in_default.ensures.found told; last = c.in_default.ensures.last told }) (λ e. absurd (cc))
       image (heard-left host.tells before row mid now read.events (others.others Events (λ e. cc, (λ e. cc, (λ e. cc, (λ e. cc, tt))))).state came.heard)
       (λ told work. (image told).1 work) (c.run_guarded.ensures.ends host.tells (λ role told. told) before came.uses);
 }

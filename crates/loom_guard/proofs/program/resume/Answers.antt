@@ -32,7 +32,7 @@ returns-in-Ok g c = record {
       let end = rw c.bytes.ensures at c.in-Err-read_kept.ensures.ends in
       let whole = λ (told : IsTrue g.V.Vault.tells). subst (λ (l : List ℕ). TellsOf row.room c.in-Ok.image (image_in l point)) (sym (kept.found told).same) (kept.image told) in
       kept-early Resuming tells g.V.Vault.tells (meanings g.H.Host c.args.host.now) (vault_meanings g.V.Vault c.args.vault.now) row c.args.guarded.now.vault.now
-      (meanings g.H.Host c.read_kept.new.host) (vault_meanings g.V.Vault c.open_kept.new.vault) status (Some point) (λ e. absurd (cc)) c.open_kept.ensures.opened c.open_kept.ensures.later
+      (meanings g.H.Host c.read_kept.new.host) (vault_meanings g.V.Vault c.open_kept.new.vault) status (Some point) (λ e. absurd (cc)) c.open_kept.ensures.opened kept.calm
       (λ told. record { from = kept.from told; finds = kept.found told; last = kept.last told }) (λ e. c.read_kept.ensures.imageless) (λ e. end.never) end.ends
       (λ told at. judged-whole (tells Work) row.room _ _ status (whole told) (end.judges at)) (λ told work past. right-whole row.room _ _ (whole told) (end.right work past));
 }
@@ -54,7 +54,7 @@ returns-in-Ok-read_kept g c = record {
       let whole = λ (told : IsTrue g.V.Vault.tells). subst (λ (l : List ℕ). TellsOf row.room c.in-Ok.image (image_in l point)) (sym (kept.found told).same) (kept.image told) in
       kept-late Resuming host.tells g.V.Vault.tells before (vault_meanings g.V.Vault c.args.vault.now) row c.args.guarded.now.vault.now
       now (vault_meanings g.V.Vault c.open_kept.new.vault) (vault_meanings g.V.Vault c.run_guarded.new.vault) c.run_guarded.result (Some point) read.loaded.state _ read.events (λ e. absurd (cc))
-      c.open_kept.ensures.opened c.open_kept.ensures.later c.run_guarded.ensures.vault_later (λ told. record { from = kept.from told; finds = kept.found told; last = kept.last told })
+      c.open_kept.ensures.opened kept.calm c.run_guarded.ensures.vault_later (λ told. record { from = kept.from told; finds = kept.found told; last = kept.last told })
       (λ e. left-then Image before mid now c.read_kept.ensures.imageless (others.others Image (λ e. cc, (λ e. cc, (λ e. cc, (λ e. cc, tt)))))) (λ image. never image) (heard-left (imageless host.tells) before row mid now read.events (others.others Events (λ e. cc, (λ e. cc, (λ e. cc, (λ e. cc, tt))))).state came.heard)
       (λ told work. read-whole row.room _ _ read.loaded.state (heap_on host c.read_kept.new.host read.rest read.loaded.next) (whole told) (is work)) (c.run_guarded.ensures.ends (imageless host.tells) (told-imageless host.tells) before came.uses);
 }

@@ -27,7 +27,7 @@ returns-in-Ok g c = record {
       let run = guarded_course read.events row.steps first state heap in
       let through = c.in-Ok.ensures.through in
       let legs = c.in-Ok.ensures.legs in
-      late-ended tells g.V.Vault.tells before (meanings host c.write_kept.new.host) (vault_meanings g.V.Vault c.args.vault.now) (vault_meanings g.V.Vault c.run_legs.new.vault) row read.events g0 run legs.0 c.write_kept.result
+      late-ended tells g.V.Vault.tells before (meanings host c.write_kept.new.host) (vault_meanings g.V.Vault c.args.vault.now) (vault_meanings g.V.Vault c.run_legs.new.vault) row read.events g0 run legs.0 c.write_kept.result c.in-Ok.ensures.calm
       (c.write_kept.ensures.ends tells sub before through.0 run (used-finishing host.tells tells sub before mid far row used c.run_legs.ensures.file c.run_legs.ensures.others)
       (λ work. (through.1 (sub Work work), came-since host.tells tells sub before mid far row used c.run_legs.ensures.file c.run_legs.ensures.others c.in-Ok.ended.finished through.0 run (through.2 (sub Work work)))))
       (λ told. legs.2.has told) (λ work. legs.2.serial (sub Work work)) (λ told. keeps-gives _ _ legs.0 _ _ (λ serial kept x work. x (sub Work work)) (legs.1 told));

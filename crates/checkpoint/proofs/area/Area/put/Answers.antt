@@ -1,4 +1,4 @@
-use Rattle.std.proofs.Common.{refl, rules}
+use Rattle.std.proofs.Common.{refl, rules, ◌∙◌}
 use Rattle.checkpoint.specs.Area.{text_of}
 use Rattle.checkpoint.specs.Vault.{contents_of}
 use Rattle.checkpoint.proofs.AreaLaws.{all-text, rest-text}
@@ -11,7 +11,7 @@ loop-rest-init g c = record {
   len = refl;
   parity = refl;
   spares = λ told. spares-still _ _ _ refl;
-  later = search rules;
+  calm = refl;
 }
 
 pub loop-rest-preserved : goal.loop-rest-preserved
@@ -21,7 +21,7 @@ loop-rest-preserved g c = record {
   len = search rules;
   parity = search rules;
   spares = λ told. apart-then _ _ _ _ _ c.loop-rest.invariant.parity (c.loop-rest.invariant.spares told) (c.in_ok-put_piece.ensures.spares told);
-  later = search rules;
+  calm = c.in_ok-put_piece.ensures.calm ∙ c.loop-rest.invariant.calm;
 }
 
 pub returns-in_err-put_piece-clause-spares : goal.returns-in_err-put_piece-clause-spares

@@ -1,4 +1,4 @@
-use Rattle.std.proofs.Common.{◌≡◌, ◌+◌, ◌≤◌, ◌++◌, length, IsTrue}
+use Rattle.std.proofs.Common.{◌≡◌, ◌+◌, ◌++◌, length, IsTrue}
 use Rattle.checkpoint.specs.Area.{len_of, text_of}
 use Rattle.checkpoint.specs.Sparing.{IsApart, Spares}
 use Rattle.checkpoint.specs.Vault.{contents_of}
@@ -10,7 +10,7 @@ invariant-loop-rest g l = record {
   len : len_of l.self + length l.rest ≡ len_of l.fn.self + length l.fn.bytes;
   parity : l.self.parity ≡ l.fn.self.parity;
   spares : IsTrue g.V.Vault.tells → Spares (IsApart l.fn.self.parity) (g.V.Vault.state l.fn.vault) (g.V.Vault.state l.vault);
-  later : g.V.Vault.faults l.fn.vault ≤ g.V.Vault.faults l.vault;
+  calm : g.V.Vault.faults l.vault ≡ g.V.Vault.faults l.fn.vault;
 }
 
 abbrev pub decreases-loop-rest : goal.decreases-loop-rest
