@@ -50,6 +50,8 @@ use Rattle.core_view.proofs.Lists.{put-here, put-there}
 use Rattle.core_view.proofs.Words.{meant-short}
 use Rattle.leaf_lambda.specs.declared.parts.Parts.{Parts}
 use Rattle.leaf_lambda.specs.Making.{body_new}
+use Rattle.leaf_lambda.specs.Whole.{IsWhole}
+use Rattle.loom_memory.proofs.OverLaws.{over_parts}
 use Rattle.leaf_lambda.specs.Parts.{core_of, spare_of, IsParts}
 use Rattle.counted_core.specs.Levels.{Levels, records_of, heap_of}
 use Rattle.counted_core.specs.Counted.{IsSound as AreSound}
@@ -238,7 +240,7 @@ need-new true c disk n words pins need o told core pinned away size is =
     (ap (λ (x : Option Object). option_map_or (λ (o : Object). 4 + body_words o.body) x 0) (held-absent c (put disk n (Some o)) n away ∙ put-here disk n (Some o)) ∙ sym size) is
     ∙ ap (λ (h : Heap). need_of h (record { object = n; slots = slots_by c pins })) (sym (added-heap c disk n o core away))
 
-pub full-making : {H : Type 0} (host : Ghosts H) (m : LoomMemory H) (u : Told) (words : ℕ) (need : Need) (x : MemFault) → IsSound host m → IsReady (loom_told host m) → (IsTrue (host.tells Work) → (core_of m.parts).find m.ledger.next ≡ None) → IsNeedBeside (core_of m.parts) m.pinned m.ledger.next words need
+pub full-making : {H : Type 0} (host : Ghosts H) (m : LoomMemory H host) (u : Told) (words : ℕ) (need : Need) (x : MemFault) → IsSound host m → IsReady (loom_told host m) → (IsTrue (host.tells Work) → (core_of m.pager.levels.parts).find m.ledger.next ≡ None) → IsNeedBeside (core_of m.pager.levels.parts) m.pager.pinned m.ledger.next words need
     → (Fits m.ledger.core m.ledger.entries need.words need.entries → ⊥) → u ≡ refused (loom_told host m) (CoreFull need) → x ≡ CoreFull need → (loom_told host m).refusals ≤ counted (loom_told host m).refusals → IsFullMaking (loom_told host m) u words x
 unfolding loom_told
 full-making {H} host m u words need x sound ready away is unfit refuses same later = λ to class what size low.
@@ -255,13 +257,13 @@ full-making {H} host m u words need x sound ready away is unfit refuses same lat
     next-told true f n told = refl
     next-told false f n told = absurd (cc)
 
-    need-of : {H : Type 0} (host : Ghosts H) (m : LoomMemory H) (to class : ℕ) (what : Making) (words : ℕ) (need : Need) (o : Object) → IsTrue (host.tells Work) → o ≡ record { class = name_at ((told_of host m.disk.host.now m.disk.rest (core_of m.parts) m.regs m.pinned m.ledger).regs class); body = body_made what } → IsSound host m
-        → (core_of m.parts).find m.ledger.next ≡ None → words ≡ 4 + body_words (body_made what) → IsNeedBeside (core_of m.parts) m.pinned m.ledger.next words need
-        → need ≡ need_of_access (told_of host m.disk.host.now m.disk.rest (core_of m.parts) m.regs m.pinned m.ledger) (Make to class what)
+    need-of : {H : Type 0} (host : Ghosts H) (m : LoomMemory H host) (to class : ℕ) (what : Making) (words : ℕ) (need : Need) (o : Object) → IsTrue (host.tells Work) → o ≡ record { class = name_at ((told_of host m.pager.levels.disk.host.now m.pager.levels.disk.rest (core_of m.pager.levels.parts) m.regs m.pager.pinned m.ledger).regs class); body = body_made what } → IsSound host m
+        → (core_of m.pager.levels.parts).find m.ledger.next ≡ None → words ≡ 4 + body_words (body_made what) → IsNeedBeside (core_of m.pager.levels.parts) m.pager.pinned m.ledger.next words need
+        → need ≡ need_of_access (told_of host m.pager.levels.disk.host.now m.pager.levels.disk.rest (core_of m.pager.levels.parts) m.regs m.pager.pinned m.ledger) (Make to class what)
     need-of host m to class what words need o told form sound away size is =
-        need-new (host.tells Work) (core_of m.parts) (disk_of host m.disk.host.now m.disk.rest) m.ledger.next words m.pinned need o told sound.kept.parts.core sound.kept.pinned away (size ∙ ap (λ (z : Object). 4 + body_words z.body) (sym form)) is
-        ∙ ap (λ (n : ℕ). need_of (add_object (heap_if (host.tells Work) (held (core_of m.parts) (disk_of host m.disk.host.now m.disk.rest)) m.ledger.next) o) (record { object = n; slots = slots_by (core_of m.parts) m.pinned })) (sym (next-told (host.tells Work) (held (core_of m.parts) (disk_of host m.disk.host.now m.disk.rest)) m.ledger.next told))
-        ∙ ap (λ (z : Object). need_of (add_object (heap_if (host.tells Work) (held (core_of m.parts) (disk_of host m.disk.host.now m.disk.rest)) m.ledger.next) z) (record { object = (heap_if (host.tells Work) (held (core_of m.parts) (disk_of host m.disk.host.now m.disk.rest)) m.ledger.next).next; slots = slots_by (core_of m.parts) m.pinned })) form
+        need-new (host.tells Work) (core_of m.pager.levels.parts) (disk_of host m.pager.levels.disk.host.now m.pager.levels.disk.rest) m.ledger.next words m.pager.pinned need o told sound.kept.parts.core sound.kept.pinned away (size ∙ ap (λ (z : Object). 4 + body_words z.body) (sym form)) is
+        ∙ ap (λ (n : ℕ). need_of (add_object (heap_if (host.tells Work) (held (core_of m.pager.levels.parts) (disk_of host m.pager.levels.disk.host.now m.pager.levels.disk.rest)) m.ledger.next) o) (record { object = n; slots = slots_by (core_of m.pager.levels.parts) m.pager.pinned })) (sym (next-told (host.tells Work) (held (core_of m.pager.levels.parts) (disk_of host m.pager.levels.disk.host.now m.pager.levels.disk.rest)) m.ledger.next told))
+        ∙ ap (λ (z : Object). need_of (add_object (heap_if (host.tells Work) (held (core_of m.pager.levels.parts) (disk_of host m.pager.levels.disk.host.now m.pager.levels.disk.rest)) m.ledger.next) z) (record { object = (heap_if (host.tells Work) (held (core_of m.pager.levels.parts) (disk_of host m.pager.levels.disk.host.now m.pager.levels.disk.rest)) m.ledger.next).next; slots = slots_by (core_of m.pager.levels.parts) m.pager.pinned })) form
 
 -- the object alone is larger than the core
 pub unfit-large : (c : Core) (pins : Pinned) (n words core entries : ℕ) (need : Need) → core < words → IsNeedBeside c pins n words need → Fits core entries need.words need.entries → ⊥
@@ -292,8 +294,8 @@ unfit-new p regs pins k n words need kept short all laid is = go (nat_lt (spare_
 -- ---- other refusals
 
 -- a failed call on Work leaves what is not in Work
-fault-call : {H : Type 0} (host : Ghosts H) (m n : LoomMemory H) (w : Told) (call : Call) (f : DiskFault) (r x : MemFault) → n.ledger ≡ m.ledger → IsWorkOnly host m.disk.host.now n.disk.host.now → disk_room n.disk.rest ≡ disk_room m.disk.rest
-    → IsPurgeFault host m.disk.host.now n.disk.host.now f → IsRefusalOf f r → w ≡ refused (loom_told host n) r → x ≡ r → (loom_told host n).refusals ≤ counted (loom_told host n).refusals
+fault-call : {H : Type 0} (host : Ghosts H) (m n : LoomMemory H host) (w : Told) (call : Call) (f : DiskFault) (r x : MemFault) → n.ledger ≡ m.ledger → IsWorkOnly host m.pager.levels.disk.host.now n.pager.levels.disk.host.now → disk_room n.pager.levels.disk.rest ≡ disk_room m.pager.levels.disk.rest
+    → IsPurgeFault host m.pager.levels.disk.host.now n.pager.levels.disk.host.now f → IsRefusalOf f r → w ≡ refused (loom_told host n) r → x ≡ r → (loom_told host n).refusals ≤ counted (loom_told host n).refusals
     → (IsMaking call → IsTrue (host.tells Work) → LAST_NAME ≤ (loom_told host m).heap.next → ⊥) → CountsRefused call (loom_told host m).bounds (refused (loom_told host n) r).bounds → SaysRefused call (loom_told host m) (refused (loom_told host n) r) r → IsRefusedCall (loom_told host m) w call x
 unfolding loom_told
 fault-call {H} host m n w call f r x ledger work room cause why refuses same later low counts says =
@@ -315,20 +317,20 @@ fault-call {H} host m n w call f r x ledger work room cause why refuses same lat
       },
     ))
   where
-    because : (f : DiskFault) (r : MemFault) → IsPurgeFault host m.disk.host.now n.disk.host.now f → IsRefusalOf f r → HasCause (loom_told host m) (refused (loom_told host n) r) call r
+    because : (f : DiskFault) (r : MemFault) → IsPurgeFault host m.pager.levels.disk.host.now n.pager.levels.disk.host.now f → IsRefusalOf f r → HasCause (loom_told host m) (refused (loom_told host n) r) call r
     because (fault.Work count) r cause is = subst (λ (y : MemFault). HasCause (loom_told host m) (refused (loom_told host n) r) call y) (sym is) (sym cause.0, cause.1)
     because (fault.Full held room) r cause is = subst (λ (y : MemFault). HasCause (loom_told host m) (refused (loom_told host n) r) call y) (sym is) cause
     because (fault.Damaged place about) r cause is = subst (λ (y : MemFault). HasCause (loom_told host m) (refused (loom_told host n) r) call y) (sym is) cause
 
-pub fault-making : {H : Type 0} (host : Ghosts H) (m n : LoomMemory H) (w : Told) (f : DiskFault) (r x : MemFault) → n.ledger ≡ m.ledger → IsWorkOnly host m.disk.host.now n.disk.host.now → disk_room n.disk.rest ≡ disk_room m.disk.rest
-    → IsPurgeFault host m.disk.host.now n.disk.host.now f → IsRefusalOf f r → w ≡ refused (loom_told host n) r → x ≡ r → (loom_told host n).refusals ≤ counted (loom_told host n).refusals → IsRefusedMaking (loom_told host m) w x
+pub fault-making : {H : Type 0} (host : Ghosts H) (m n : LoomMemory H host) (w : Told) (f : DiskFault) (r x : MemFault) → n.ledger ≡ m.ledger → IsWorkOnly host m.pager.levels.disk.host.now n.pager.levels.disk.host.now → disk_room n.pager.levels.disk.rest ≡ disk_room m.pager.levels.disk.rest
+    → IsPurgeFault host m.pager.levels.disk.host.now n.pager.levels.disk.host.now f → IsRefusalOf f r → w ≡ refused (loom_told host n) r → x ≡ r → (loom_told host n).refusals ≤ counted (loom_told host n).refusals → IsRefusedMaking (loom_told host m) w x
 unfolding loom_told
 fault-making {H} host m n w f r x ledger work room cause why refuses same later = λ to class what low.
     fault-call host m n w (Does (Make to class what)) f r x ledger work room cause why refuses same later (λ make told past. (let less = low told in omega (arith, less, past)))
     (ap (λ (k : Ledger). k.base) ledger, ap (λ (k : Ledger). k.made) ledger ∙ sym (add-zero m.ledger.made)) (λ told. ap (λ (s : RoleState). s.put) (work.others Transcript transcript-away))
 
-pub fault-settling : {H : Type 0} (host : Ghosts H) (m n : LoomMemory H) (w : Told) (f : DiskFault) (r x : MemFault) → n.ledger ≡ m.ledger → IsWorkOnly host m.disk.host.now n.disk.host.now → disk_room n.disk.rest ≡ disk_room m.disk.rest
-    → IsPurgeFault host m.disk.host.now n.disk.host.now f → IsRefusalOf f r → w ≡ refused (loom_told host n) r → x ≡ r → (loom_told host n).refusals ≤ counted (loom_told host n).refusals → IsRefusedCall (loom_told host m) w Settles x
+pub fault-settling : {H : Type 0} (host : Ghosts H) (m n : LoomMemory H host) (w : Told) (f : DiskFault) (r x : MemFault) → n.ledger ≡ m.ledger → IsWorkOnly host m.pager.levels.disk.host.now n.pager.levels.disk.host.now → disk_room n.pager.levels.disk.rest ≡ disk_room m.pager.levels.disk.rest
+    → IsPurgeFault host m.pager.levels.disk.host.now n.pager.levels.disk.host.now f → IsRefusalOf f r → w ≡ refused (loom_told host n) r → x ≡ r → (loom_told host n).refusals ≤ counted (loom_told host n).refusals → IsRefusedCall (loom_told host m) w Settles x
 unfolding loom_told
 fault-settling {H} host m n w f r x ledger work room cause why refuses same later =
     fault-call host m n w Settles f r x ledger work room cause why refuses same later (λ make told past. make) tt (λ told. ap (λ (s : RoleState). s.put) (work.others Transcript transcript-away))
@@ -346,7 +348,7 @@ nameless-making t u (Said count) x ready still cause refuses same later = absurd
 nameless-making t u Memory x ready still cause refuses same later = absurd cause
 
 -- as many are held as there is room for, after few makings
-pub crowded-making : {H : Type 0} (host : Ghosts H) (m : LoomMemory H) (u : Told) (base live room : ℕ) (x : MemFault) → IsReady (loom_told host m) → m.ledger.base ≡ Some base → live ≡ base + m.ledger.made + 1 → room ≡ disk_room m.disk.rest → room < live
+pub crowded-making : {H : Type 0} (host : Ghosts H) (m : LoomMemory H host) (u : Told) (base live room : ℕ) (x : MemFault) → IsReady (loom_told host m) → m.ledger.base ≡ Some base → live ≡ base + m.ledger.made + 1 → room ≡ disk_room m.pager.levels.disk.rest → room < live
     → u ≡ refused (loom_told host m) (WorkFull live room) → x ≡ WorkFull live room → (loom_told host m).refusals ≤ counted (loom_told host m).refusals → IsRefusedMaking (loom_told host m) u x
 unfolding loom_told
 crowded-making {H} host m u base live room x ready is lives full more refuses same later = λ to class what low.
@@ -356,8 +358,8 @@ crowded-making {H} host m u base live room x ready is lives full more refuses sa
     (subst (λ b. ForBounds b (λ b. (b.room ≡ room) × (room < live))) (sym (ap (λ (z : Told). z.bounds) refuses)) (sym full, more), inl (base, is, lives), omega arith))
 
 -- nothing is dead, and there is no room for one more
-pub overfull-making : {H : Type 0} (host : Ghosts H) (m n : LoomMemory H) (u : Told) (live room : ℕ) (x : MemFault) → IsReady (loom_told host m) → HasThinned (loom_told host m) (loom_told host n) → HasKept (loom_told host m) (loom_told host n)
-    → (IsTrue (host.tells Work) → object_count (loom_told host n).heap + 1 ≡ live) → 8 ≤ m.ledger.made → room ≡ disk_room n.disk.rest → room < live
+pub overfull-making : {H : Type 0} (host : Ghosts H) (m n : LoomMemory H host) (u : Told) (live room : ℕ) (x : MemFault) → IsReady (loom_told host m) → HasThinned (loom_told host m) (loom_told host n) → HasKept (loom_told host m) (loom_told host n)
+    → (IsTrue (host.tells Work) → object_count (loom_told host n).heap + 1 ≡ live) → 8 ≤ m.ledger.made → room ≡ disk_room n.pager.levels.disk.rest → room < live
     → u ≡ refused (loom_told host n) (WorkFull live room) → x ≡ WorkFull live room → (loom_told host m).refusals ≤ counted (loom_told host m).refusals → IsRefusedMaking (loom_told host m) u x
 unfolding loom_told
 overfull-making {H} host m n u live room x ready thin kept lives late full more refuses same later = λ to class what low.
@@ -371,40 +373,40 @@ overfull-making {H} host m n u live room x ready thin kept lives late full more 
 
 -- ---- the memory after an object joined
 
-pub added-sound : {H : Type 0} (host : Ghosts H) (m : LoomMemory H) (q : Parts) (l : Ledger) (class : ℕ) (sort : Kind) (len header s : ℕ) → IsSound host m → IsParts q → size_of q.segment ≡ size_of m.parts.segment → IsNew (core_of m.parts) (core_of q) m.ledger.next class sort len header s → m.ledger.held < disk_room m.disk.rest → m.ledger.next ≤ 2 ^ 32
-    → ((t : Levels) → core_of m.parts ≡ t.core → AreSound t [] → HasFew t → t.next ≡ m.ledger.next → AreSound (made t (core_of q)) []) → l ≡ record m.ledger { held = m.ledger.held + 1; made = m.ledger.made + 1; next = m.ledger.next + 2 }
-    → IsSound host (record m { parts = q; ledger = l; thinned = false })
-added-sound {H} host m q l class sort len header s sound parts size new low few f is = subst (λ (k : Ledger). IsSound host (record m { parts = q; ledger = k; thinned = false })) (sym is) (record {
-  kept = kept-numbers q m.regs m.pinned m.ledger (m.ledger.held + 1) (m.ledger.made + 1) (m.ledger.next + 2) (calm-kept m.parts q m.regs m.pinned m.ledger sound.kept (new.calm m.pinned) parts (new.tight sound.kept.tight) size);
-  over = added-over host m.disk.host.now m.disk.rest (core_of m.parts) (core_of q) m.ledger m.ledger.next class sort len header s sound.over new low (λ told. (next-absent host m.parts m.disk.host.now m.disk.rest m.ledger.next sound.exact told).1);
+pub added-sound : {H : Type 0} (host : Ghosts H) (m : LoomMemory H host) (q : Parts) (whole : IsWhole q) (l : Ledger) (class : ℕ) (sort : Kind) (len header s : ℕ) → IsSound host m → IsParts q → size_of q.segment ≡ size_of m.pager.levels.parts.segment → IsNew (core_of m.pager.levels.parts) (core_of q) m.ledger.next class sort len header s → m.ledger.held < disk_room m.pager.levels.disk.rest → m.ledger.next ≤ 2 ^ 32
+    → ((t : Levels) → core_of m.pager.levels.parts ≡ t.core → AreSound t [] → HasFew t → t.next ≡ m.ledger.next → AreSound (made t (core_of q)) []) → l ≡ record m.ledger { held = m.ledger.held + 1; made = m.ledger.made + 1; next = m.ledger.next + 2 }
+    → IsSound host (record (over_parts m q whole) { ledger = l; thinned = false })
+added-sound {H} host m q whole l class sort len header s sound parts size new low few f is = subst (λ (k : Ledger). IsSound host (record (over_parts m q whole) { ledger = k; thinned = false })) (sym is) (record {
+  kept = kept-numbers q m.regs m.pager.pinned m.ledger (m.ledger.held + 1) (m.ledger.made + 1) (m.ledger.next + 2) (calm-kept m.pager.levels.parts q m.regs m.pager.pinned m.ledger sound.kept (new.calm m.pager.pinned) parts (new.tight sound.kept.tight) size);
+  over = added-over host m.pager.levels.disk.host.now m.pager.levels.disk.rest (core_of m.pager.levels.parts) (core_of q) m.ledger m.ledger.next class sort len header s sound.over new low (λ told. (next-absent host m.pager.levels.parts m.pager.levels.disk.host.now m.pager.levels.disk.rest m.ledger.next sound.exact told).1);
   soon = (let was = sound.soon in omega (arith, was));
-  exact = added-exact host m.parts q m.disk.host.now m.disk.rest m.ledger.next sound.exact few f;
-  thin = thin-off host (record m { parts = q; ledger = record m.ledger { held = m.ledger.held + 1; made = m.ledger.made + 1; next = m.ledger.next + 2 }; thinned = false }) refl;
+  exact = added-exact host m.pager.levels.parts q m.pager.levels.disk.host.now m.pager.levels.disk.rest m.ledger.next sound.exact few f;
+  thin = thin-off host (record (over_parts m q whole) { ledger = record m.ledger { held = m.ledger.held + 1; made = m.ledger.made + 1; next = m.ledger.next + 2 }; thinned = false }) refl;
 })
 
-pub added-is : {H : Type 0} (host : Ghosts H) (m : LoomMemory H) (q : Parts) (l : Ledger) (of c : ℕ) (sort : Kind) (len header s : ℕ) → IsSound host m → IsParts q → IsNew (core_of m.parts) (core_of q) m.ledger.next c sort len header s → c ≡ word_in m.regs of → is_short c ≡ true
-    → l ≡ record m.ledger { held = m.ledger.held + 1; made = m.ledger.made + 1; next = m.ledger.next + 2 } → HasAdded (loom_told host m) (loom_told host (record m { parts = q; ledger = l; thinned = false })) of (making_of sort len header)
+pub added-is : {H : Type 0} (host : Ghosts H) (m : LoomMemory H host) (q : Parts) (whole : IsWhole q) (l : Ledger) (of c : ℕ) (sort : Kind) (len header s : ℕ) → IsSound host m → IsParts q → IsNew (core_of m.pager.levels.parts) (core_of q) m.ledger.next c sort len header s → c ≡ word_in m.regs of → is_short c ≡ true
+    → l ≡ record m.ledger { held = m.ledger.held + 1; made = m.ledger.made + 1; next = m.ledger.next + 2 } → HasAdded (loom_told host m) (loom_told host (record (over_parts m q whole) { ledger = l; thinned = false })) of (making_of sort len header)
 unfolding loom_told
-added-is {H} host m q l of c sort len header s sound parts new is short same =
-    subst (λ (k : Ledger). HasAdded (told_of host m.disk.host.now m.disk.rest (core_of m.parts) m.regs m.pinned m.ledger) (told_of host m.disk.host.now m.disk.rest (core_of q) m.regs m.pinned k) of (making_of sort len header)) (sym same)
-    (added-told host m.disk.host.now m.disk.rest (core_of m.parts) (core_of q) m.regs m.pinned m.ledger c of sort len header s (kept-rooted m.parts m.regs m.pinned m.ledger sound.kept) parts.core new sound.over.backed
-    (ap (meant (core_of m.parts).entries [] 0) (sym is) ∙ meant-short (core_of m.parts).entries [] 0 c short)
-    (cache-left (core_of m.parts) (core_of q) (found m.ledger.rows) m.ledger.mark m.ledger.begun sound.kept.parts.core parts.core (new.calm m.pinned).marks sound.kept.cached))
+added-is {H} host m q whole l of c sort len header s sound parts new is short same =
+    subst (λ (k : Ledger). HasAdded (told_of host m.pager.levels.disk.host.now m.pager.levels.disk.rest (core_of m.pager.levels.parts) m.regs m.pager.pinned m.ledger) (told_of host m.pager.levels.disk.host.now m.pager.levels.disk.rest (core_of q) m.regs m.pager.pinned k) of (making_of sort len header)) (sym same)
+    (added-told host m.pager.levels.disk.host.now m.pager.levels.disk.rest (core_of m.pager.levels.parts) (core_of q) m.regs m.pager.pinned m.ledger c of sort len header s (kept-rooted m.pager.levels.parts m.regs m.pager.pinned m.ledger sound.kept) parts.core new sound.over.backed
+    (ap (meant (core_of m.pager.levels.parts).entries [] 0) (sym is) ∙ meant-short (core_of m.pager.levels.parts).entries [] 0 c short)
+    (cache-left (core_of m.pager.levels.parts) (core_of q) (found m.ledger.rows) m.ledger.mark m.ledger.begun sound.kept.parts.core parts.core (new.calm m.pager.pinned).marks sound.kept.cached))
 
 -- what is told of the next name
-pub told-next : {H : Type 0} (host : Ghosts H) (m : LoomMemory H) → IsTrue (host.tells Work) → (loom_told host m).heap.next ≡ m.ledger.next
+pub told-next : {H : Type 0} (host : Ghosts H) (m : LoomMemory H host) → IsTrue (host.tells Work) → (loom_told host m).heap.next ≡ m.ledger.next
 unfolding loom_told
 told-next host m told = go (host.tells Work) told
   where
-    go : (b : Bool) → IsTrue b → (heap_if b (held (core_of m.parts) (disk_of host m.disk.host.now m.disk.rest)) m.ledger.next).next ≡ m.ledger.next
+    go : (b : Bool) → IsTrue b → (heap_if b (held (core_of m.pager.levels.parts) (disk_of host m.pager.levels.disk.host.now m.pager.levels.disk.rest)) m.ledger.next).next ≡ m.ledger.next
     go true t = refl
     go false t = absurd (cc)
 
-pub next-low : {H : Type 0} (host : Ghosts H) (m : LoomMemory H) (n : ℕ) → m.ledger.next ≡ n → n < LAST_NAME → IsTrue (host.tells Work) → (loom_told host m).heap.next < LAST_NAME
+pub next-low : {H : Type 0} (host : Ghosts H) (m : LoomMemory H host) (n : ℕ) → m.ledger.next ≡ n → n < LAST_NAME → IsTrue (host.tells Work) → (loom_told host m).heap.next < LAST_NAME
 next-low host m n is low told = let same = told-next host m told in omega (arith, same, is, low)
 
 -- the core is as large as the object
-pub core-there : {H : Type 0} (host : Ghosts H) (m : LoomMemory H) (to class words : ℕ) (what : Making) → words ≡ 4 + body_words (body_made what) → words ≤ m.ledger.core → IfBounds (loom_told host m).bounds (HasCore (loom_told host m) (Make to class what))
+pub core-there : {H : Type 0} (host : Ghosts H) (m : LoomMemory H host) (to class words : ℕ) (what : Making) → words ≡ 4 + body_words (body_made what) → words ≤ m.ledger.core → IfBounds (loom_told host m).bounds (HasCore (loom_told host m) (Make to class what))
 unfolding loom_told
 core-there host m to class words what is fits = omega (arith, is, fits)
 
@@ -415,9 +417,9 @@ fault-other (fault.Full held room) r is = subst (λ (x : MemFault). IsNotFull x)
 fault-other (fault.Damaged place about) r is = subst (λ (x : MemFault). IsNotFull x) (sym is) tt
 
 -- the register of a class has the short word of an entry
-pub short-class : {H : Type 0} (host : Ghosts H) (m : LoomMemory H) (of w : ℕ) → w ≢ 0 → w ≡ word_in m.regs of → IsRef ((loom_told host m).regs of) → is_short w ≡ true
+pub short-class : {H : Type 0} (host : Ghosts H) (m : LoomMemory H host) (of w : ℕ) → w ≢ 0 → w ≡ word_in m.regs of → IsRef ((loom_told host m).regs of) → is_short w ≡ true
 unfolding loom_told
-short-class host m of w some is ref = ref-short (core_of m.parts) w some (subst (λ (k : ℕ). IsRef (meant (core_of m.parts).entries [] 0 k)) (sym is) ref)
+short-class host m of w some is ref = ref-short (core_of m.pager.levels.parts) w some (subst (λ (k : ℕ). IsRef (meant (core_of m.pager.levels.parts).entries [] 0 k)) (sym is) ref)
 
 pub name-new : (a d : Core) (name next class : ℕ) (k : Kind) (len header s : ℕ) → next ≡ name → IsNew a d name class k len header s → IsNew a d next class k len header s
 name-new a d name next class k len header s is x = subst (λ (n : ℕ). IsNew a d n class k len header s) (sym is) x
@@ -426,17 +428,17 @@ pub entry-means : (c : Core) (s name : ℕ) → IsEntryOf c s name → meant c.e
 entry-means c s name x = meant-short c.entries [] 0 s x.short ∙ ap Ref x.named
 
 -- the next name has an entry, as no heap that is told comes to
-pub damaged-making : {H : Type 0} (host : Ghosts H) (m n : LoomMemory H) (w : Told) (name : ℕ) (x : MemFault) → n.ledger ≡ m.ledger → n.disk ≡ m.disk → (IsTrue (host.tells Work) → ⊥) → w ≡ refused (loom_told host n) (Damaged NOWHERE name) → x ≡ Damaged NOWHERE name
+pub damaged-making : {H : Type 0} (host : Ghosts H) (m n : LoomMemory H host) (w : Told) (name : ℕ) (x : MemFault) → n.ledger ≡ m.ledger → n.pager.levels.disk ≡ m.pager.levels.disk → (IsTrue (host.tells Work) → ⊥) → w ≡ refused (loom_told host n) (Damaged NOWHERE name) → x ≡ Damaged NOWHERE name
     → (loom_told host n).refusals ≤ counted (loom_told host n).refusals → IsRefusedMaking (loom_told host m) w x
 damaged-making {H} host m n w name x ledger disk untold refuses same later =
     fault-making host m n w (fault.Damaged NOWHERE name) (Damaged NOWHERE name) x ledger
-    (subst (λ d. IsWorkOnly host m.disk.host.now d.host.now) (sym disk) (work-refl host m.disk.host.now)) (ap (λ d. disk_room d.rest) disk) untold refl refuses same later
+    (subst (λ d. IsWorkOnly host m.pager.levels.disk.host.now d.host.now) (sym disk) (work-refl host m.pager.levels.disk.host.now)) (ap (λ d. disk_room d.rest) disk) untold refl refuses same later
 
 pub core-ok : {A : Type 0} (r : Result (Unit {0}) MemFault) → A → OnOk r A
 core-ok {A} (Ok x) a = a
 core-ok {A} (Err f) a = tt
 
-pub nameless-now : {H : Type 0} (host : Ghosts H) (m : LoomMemory H) (u : Told) (f x : MemFault) → IsReady (loom_told host m) → IsNameless (loom_told host m) f → u ≡ refused (loom_told host m) f → x ≡ f → (loom_told host m).refusals ≤ counted (loom_told host m).refusals → IfNameless (loom_told host m) u x
+pub nameless-now : {H : Type 0} (host : Ghosts H) (m : LoomMemory H host) (u : Told) (f x : MemFault) → IsReady (loom_told host m) → IsNameless (loom_told host m) f → u ≡ refused (loom_told host m) f → x ≡ f → (loom_told host m).refusals ≤ counted (loom_told host m).refusals → IfNameless (loom_told host m) u x
 nameless-now {H} host m u f x ready cause refuses same later = nameless-making (loom_told host m) u f x ready (quiet-thinned (loom_told host m) (loom_told host m) (quiet-same host m) ready) cause refuses same later
 
 pub fault-lost : (f : DiskFault) (r : MemFault) → IsRefusalOf f r → IsLost r

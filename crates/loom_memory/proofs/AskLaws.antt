@@ -33,40 +33,40 @@ pub ask-thinned : {T : Type 0} (r : Result T MemFault) (t u v : Told) → HasThi
 ask-thinned {T} (Ok x) t u v first last = thinned-trans t u v first last
 ask-thinned {T} (Err f) t u v first last = tt
 
-pub ask-held : {T H : Type 0} (r : Result T MemFault) (u v : LoomMemory H) → u.ledger.held < disk_room u.disk.rest → OnOk r (v.ledger.held ≤ u.ledger.held) → OnOk r (disk_room v.disk.rest ≡ disk_room u.disk.rest) → OnOk r (v.ledger.held < disk_room v.disk.rest)
-ask-held {T} {H} (Ok x) u v held less limit = omega (arith, held, less, limit)
-ask-held {T} {H} (Err f) u v held less limit = tt
+pub ask-held : {T H : Type 0} {host : Ghosts H} (r : Result T MemFault) (u v : LoomMemory H host) → u.ledger.held < disk_room u.pager.levels.disk.rest → OnOk r (v.ledger.held ≤ u.ledger.held) → OnOk r (disk_room v.pager.levels.disk.rest ≡ disk_room u.pager.levels.disk.rest) → OnOk r (v.ledger.held < disk_room v.pager.levels.disk.rest)
+ask-held {T} {H} {host} (Ok x) u v held less limit = omega (arith, held, less, limit)
+ask-held {T} {H} {host} (Err f) u v held less limit = tt
 
-pub ask-next : {T H : Type 0} (r : Result T MemFault) (m u v : LoomMemory H) → u.ledger.next ≡ m.ledger.next → OnOk r (v.ledger ≡ record u.ledger { held = v.ledger.held }) → OnOk r (v.ledger.next ≡ m.ledger.next)
-ask-next {T} {H} (Ok x) m u v first last = ap (λ (k : Ledger). k.next) last ∙ first
-ask-next {T} {H} (Err f) m u v first last = tt
+pub ask-next : {T H : Type 0} {host : Ghosts H} (r : Result T MemFault) (m u v : LoomMemory H host) → u.ledger.next ≡ m.ledger.next → OnOk r (v.ledger ≡ record u.ledger { held = v.ledger.held }) → OnOk r (v.ledger.next ≡ m.ledger.next)
+ask-next {T} {H} {host} (Ok x) m u v first last = ap (λ (k : Ledger). k.next) last ∙ first
+ask-next {T} {H} {host} (Err f) m u v first last = tt
 
-pub ask-fetches : {T H : Type 0} (r : Result T MemFault) (m u v : LoomMemory H) → fetched u ≡ fetched m → OnOk r (v.ledger ≡ record u.ledger { held = v.ledger.held }) → OnOk r (fetched v ≡ fetched m)
+pub ask-fetches : {T H : Type 0} {host : Ghosts H} (r : Result T MemFault) (m u v : LoomMemory H host) → fetched u ≡ fetched m → OnOk r (v.ledger ≡ record u.ledger { held = v.ledger.held }) → OnOk r (fetched v ≡ fetched m)
 unfolding fetched
-ask-fetches {T} {H} (Ok x) m u v first last = ap (λ (k : Ledger). k.fetches) last ∙ first
-ask-fetches {T} {H} (Err f) m u v first last = tt
+ask-fetches {T} {H} {host} (Ok x) m u v first last = ap (λ (k : Ledger). k.fetches) last ∙ first
+ask-fetches {T} {H} {host} (Err f) m u v first last = tt
 
-pub ask-early : {T H P : Type 0} (r : Result T MemFault) (m u v : LoomMemory H) (words : ℕ) → (P → u ≡ m) → OnOk r (HasRoom u.parts words 27 → v ≡ u) → OnOk r (P → HasRoom m.parts words 27 → v ≡ m)
-ask-early {T} {H} {P} (Ok x) m u v words first last = λ p has. last (subst (λ (z : LoomMemory H). HasRoom z.parts words 27) (sym (first p)) has) ∙ first p
-ask-early {T} {H} {P} (Err f) m u v words first last = tt
+pub ask-early : {T H P : Type 0} {host : Ghosts H} (r : Result T MemFault) (m u v : LoomMemory H host) (words : ℕ) → (P → u ≡ m) → OnOk r (HasRoom u.pager.levels.parts words 27 → v ≡ u) → OnOk r (P → HasRoom m.pager.levels.parts words 27 → v ≡ m)
+ask-early {T} {H} {P} {host} (Ok x) m u v words first last = λ p has. last (subst (λ (z : LoomMemory H host). HasRoom z.pager.levels.parts words 27) (sym (first p)) has) ∙ first p
+ask-early {T} {H} {P} {host} (Err f) m u v words first last = tt
 
 -- what is there in the end was there between
 thinned-had : (t u : Told) (k : ℕ) → HasThinned t u → IsTrue t.tells → Has u.heap k → Has t.heap k
 thinned-had t u k thin told has = ap (λ (o : Option Object). is_some o) (same-there t.heap u.heap k (thin.thinning told).thinner has) ∙ has
 
-pub ask-bodies : {T H : Type 0} (r : Result T MemFault) (host : Ghosts H) (m u v : LoomMemory H) → HasThinned (loom_told host m) (loom_told host u) → OnOk r (HasThinned (loom_told host u) (loom_told host v))
-    → (IsTrue (host.tells Work) → KeepsHeld (core_of m.parts) (core_of u.parts) (loom_told host u).heap) → OnOk r (IsTrue (host.tells Work) → KeepsHeld (core_of u.parts) (core_of v.parts) (loom_told host v).heap)
-    → OnOk r (IsTrue (host.tells Work) → KeepsHeld (core_of m.parts) (core_of v.parts) (loom_told host v).heap)
+pub ask-bodies : {T H : Type 0} (r : Result T MemFault) (host : Ghosts H) (m u v : LoomMemory H host) → HasThinned (loom_told host m) (loom_told host u) → OnOk r (HasThinned (loom_told host u) (loom_told host v))
+    → (IsTrue (host.tells Work) → KeepsHeld (core_of m.pager.levels.parts) (core_of u.pager.levels.parts) (loom_told host u).heap) → OnOk r (IsTrue (host.tells Work) → KeepsHeld (core_of u.pager.levels.parts) (core_of v.pager.levels.parts) (loom_told host v).heap)
+    → OnOk r (IsTrue (host.tells Work) → KeepsHeld (core_of m.pager.levels.parts) (core_of v.pager.levels.parts) (loom_told host v).heap)
 unfolding loom_told
 ask-bodies {T} {H} (Ok x) host m u v thin then first last = λ told s p at has.
-    let before = first told s p at (thinned-had (loom_told host u) (loom_told host v) ((core_of m.parts).entries s).name then told has) in
-    body-then (core_of m.parts) (core_of u.parts) (core_of v.parts) s p before (last told s before.at before.place (subst (λ (k : ℕ). Has (loom_told host v).heap k) (sym before.name) has))
+    let before = first told s p at (thinned-had (loom_told host u) (loom_told host v) ((core_of m.pager.levels.parts).entries s).name then told has) in
+    body-then (core_of m.pager.levels.parts) (core_of u.pager.levels.parts) (core_of v.pager.levels.parts) s p before (last told s before.at before.place (subst (λ (k : ℕ). Has (loom_told host v).heap k) (sym before.name) has))
 ask-bodies {T} {H} (Err f) host m u v thin then first last = tt
 
-pub ask-room : {T H : Type 0} (r : Result T MemFault) (m u v : LoomMemory H) → ((k : ℕ) → HasRoom m.parts k 27 → HasRoom u.parts k 27) → OnOk r (free_of u.parts.segment ≤ free_of v.parts.segment) → OnOk r (spare_of u.parts ≤ spare_of v.parts)
-    → OnOk r ((k : ℕ) → HasRoom m.parts k 27 → HasRoom v.parts k 27)
-ask-room {T} {H} (Ok x) m u v first words entries = λ k has. let now = first k has in let a = now.0 in let b = now.1 in (omega (arith, a, words), omega (arith, b, entries))
-ask-room {T} {H} (Err f) m u v first words entries = tt
+pub ask-room : {T H : Type 0} {host : Ghosts H} (r : Result T MemFault) (m u v : LoomMemory H host) → ((k : ℕ) → HasRoom m.pager.levels.parts k 27 → HasRoom u.pager.levels.parts k 27) → OnOk r (free_of u.pager.levels.parts.segment ≤ free_of v.pager.levels.parts.segment) → OnOk r (spare_of u.pager.levels.parts ≤ spare_of v.pager.levels.parts)
+    → OnOk r ((k : ℕ) → HasRoom m.pager.levels.parts k 27 → HasRoom v.pager.levels.parts k 27)
+ask-room {T} {H} {host} (Ok x) m u v first words entries = λ k has. let now = first k has in let a = now.0 in let b = now.1 in (omega (arith, a, words), omega (arith, b, entries))
+ask-room {T} {H} {host} (Err f) m u v first words entries = tt
 
 lost-full : (f : MemFault) → IsLost f → (live room : ℕ) → f ≡ WorkFull live room → ⊥
 lost-full f lost live room is = subst (λ (g : MemFault). IsLost g) is lost
@@ -80,22 +80,22 @@ pub ask-full : {T : Type 0} (r : Result T MemFault) → IfErr r IsLost → IfErr
 ask-full {T} (Ok x) lost = tt
 ask-full {T} (Err f) lost = core-lost f ⊥ lost
 
-pub ask-spared : {T H : Type 0} (P : Type 0) (r : Result T MemFault) (host : Ghosts H) (m u v : LoomMemory H) (words : ℕ) → ((k : ℕ) → HasRoom m.parts k 27 → HasRoom u.parts k 27) → IfErr r (λ f. HasRoom u.parts words 27 → ⊥) → IfErr r (λ f. P → HasRoom m.parts words 27 → IsSpared host m v)
+pub ask-spared : {T H : Type 0} (P : Type 0) (r : Result T MemFault) (host : Ghosts H) (m u v : LoomMemory H host) (words : ℕ) → ((k : ℕ) → HasRoom m.pager.levels.parts k 27 → HasRoom u.pager.levels.parts k 27) → IfErr r (λ f. HasRoom u.pager.levels.parts words 27 → ⊥) → IfErr r (λ f. P → HasRoom m.pager.levels.parts words 27 → IsSpared host m v)
 ask-spared {T} {H} P (Ok x) host m u v words room sure = tt
 ask-spared {T} {H} P (Err f) host m u v words room sure = λ p has. absurd (sure (room words has))
 
-pub ask-sure : {T H : Type 0} (P : Type 0) (r : Result T MemFault) (m u : LoomMemory H) (words : ℕ) → ((k : ℕ) → HasRoom m.parts k 27 → HasRoom u.parts k 27) → IfErr r (λ f. HasRoom u.parts words 27 → ⊥) → IfErr r (λ f. P → HasRoom m.parts words 27 → ⊥)
-ask-sure {T} {H} P (Ok x) m u words room sure = tt
-ask-sure {T} {H} P (Err f) m u words room sure = λ p has. sure (room words has)
+pub ask-sure : {T H : Type 0} {host : Ghosts H} (P : Type 0) (r : Result T MemFault) (m u : LoomMemory H host) (words : ℕ) → ((k : ℕ) → HasRoom m.pager.levels.parts k 27 → HasRoom u.pager.levels.parts k 27) → IfErr r (λ f. HasRoom u.pager.levels.parts words 27 → ⊥) → IfErr r (λ f. P → HasRoom m.pager.levels.parts words 27 → ⊥)
+ask-sure {T} {H} {host} P (Ok x) m u words room sure = tt
+ask-sure {T} {H} {host} P (Err f) m u words room sure = λ p has. sure (room words has)
 
 -- ---- everything leaves, after dead objects went
 
-pub first-fetches : {T H : Type 0} (r : Result T MemFault) (m u v : LoomMemory H) → u.ledger ≡ record m.ledger { held = u.ledger.held } → OnOk r (fetched v ≡ fetched u) → OnOk r (fetched v ≡ fetched m)
+pub first-fetches : {T H : Type 0} {host : Ghosts H} (r : Result T MemFault) (m u v : LoomMemory H host) → u.ledger ≡ record m.ledger { held = u.ledger.held } → OnOk r (fetched v ≡ fetched u) → OnOk r (fetched v ≡ fetched m)
 unfolding fetched
-first-fetches {T} {H} (Ok x) m u v first last = last ∙ ap (λ (k : Ledger). k.fetches) first
-first-fetches {T} {H} (Err f) m u v first last = tt
+first-fetches {T} {H} {host} (Ok x) m u v first last = last ∙ ap (λ (k : Ledger). k.fetches) first
+first-fetches {T} {H} {host} (Err f) m u v first last = tt
 
-pub ask-minds : {T H : Type 0} (r : Result T MemFault) (host : Ghosts H) (m u v : LoomMemory H) → MindsCache host None m u (λ k. ⊥) → OnOk r (MindsCache host None u v (λ k. ⊥)) → OnOk r (MindsCache host None m v (λ k. ⊥))
+pub ask-minds : {T H : Type 0} (r : Result T MemFault) (host : Ghosts H) (m u v : LoomMemory H host) → MindsCache host None m u (λ k. ⊥) → OnOk r (MindsCache host None u v (λ k. ⊥)) → OnOk r (MindsCache host None m v (λ k. ⊥))
 ask-minds {T} {H} (Ok x) host m u v first last = minds-then host m u v (λ k. ⊥) (λ k. ⊥) (λ k. ⊥) (λ k no. no) (λ k no. no) first last
 ask-minds {T} {H} (Err f) host m u v first last = tt
 

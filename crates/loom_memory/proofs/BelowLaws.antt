@@ -1,5 +1,6 @@
 -- Names in a record that are below the next one: the loop that tests them, and that over a told heap it never says no.
 use Rattle.std.proofs.Common.{zero, suc, ◌≡◌, ◌↔◌, ℕ, ◌%◌, ◌<◌, Bool, true, false, cond, eqb, ◌||◌, List, [], ◌∷◌, length, map, refl, sym, ◌∙◌, ap, subst, arith, Option, None, Some, Result, Ok, Err, IsTrue, ⊎_elim}
+use Rattle.loom_host.specs.declared.outside.Host.{Ghosts}
 use Rattle.std.proofs.lemmas.Grind.{common_steps}
 use Rattle.std.specs.Prelude.{nat_lt, slice_index}
 use Rattle.std.specs.List.{list_any}
@@ -110,21 +111,21 @@ absent-own true c disk next n told away = held-absent c disk n away
 
 -- ---- the record stays in the buffer
 
-pub tested-name : {T H : Type 0} (r : Result T MemFault) (m : LoomMemory H) (n k : ℕ) → n ≡ k → OnOk r (IsTested m n) → OnOk r (IsTested m k)
-tested-name {T} {H} (Ok x) m n k same is = subst (λ (z : ℕ). IsTested m z) same is
-tested-name {T} {H} (Err f) m n k same is = tt
+pub tested-name : {T H : Type 0} {host : Ghosts H} (r : Result T MemFault) (m : LoomMemory H host) (n k : ℕ) → n ≡ k → OnOk r (IsTested m n) → OnOk r (IsTested m k)
+tested-name {T} {H} {host} (Ok x) m n k same is = subst (λ (z : ℕ). IsTested m z) same is
+tested-name {T} {H} {host} (Err f) m n k same is = tt
 
-pub tested-then : {H : Type 0} (m u : LoomMemory H) (n : ℕ) → u.buf ≡ m.buf → u.ledger.next ≡ m.ledger.next → IsTested m n → IsTested u n
-tested-then {H} m u n same next is = record {
+pub tested-then : {H : Type 0} {host : Ghosts H} (m u : LoomMemory H host) (n : ℕ) → u.buf ≡ m.buf → u.ledger.next ≡ m.ledger.next → IsTested m n → IsTested u n
+tested-then {H} {host} m u n same next is = record {
   record_there = subst HasRecord (sym same) is.record_there;
   named = ap (λ (bytes : List ℕ). (raw_of bytes).name) same ∙ is.named;
   below = subst (λ (k : ℕ). HoldsBelow k (object_in (raw_of u.buf))) (sym next) (subst (λ (bytes : List ℕ). HoldsBelow m.ledger.next (object_in (raw_of bytes))) (sym same) is.below);
 }
 
 -- what a call brought in was tested before
-pub tested-after : {T H : Type 0} (P : Type 0) (r : Result T MemFault) (m u : LoomMemory H) (n : ℕ) → u.buf ≡ m.buf → OnOk r (u.ledger.next ≡ m.ledger.next) → IsTested m n → OnOk r (P → IsTested u n)
-tested-after {T} {H} P (Ok x) m u n same next is = λ p. tested-then m u n same next is
-tested-after {T} {H} P (Err f) m u n same next is = tt
+pub tested-after : {T H : Type 0} {host : Ghosts H} (P : Type 0) (r : Result T MemFault) (m u : LoomMemory H host) (n : ℕ) → u.buf ≡ m.buf → OnOk r (u.ledger.next ≡ m.ledger.next) → IsTested m n → OnOk r (P → IsTested u n)
+tested-after {T} {H} {host} P (Ok x) m u n same next is = λ p. tested-then m u n same next is
+tested-after {T} {H} {host} P (Err f) m u n same next is = tt
 
 pub tested-where : {T : Type 0} (A B P : Type 0) (r : Result T MemFault) → OnOk r (A → B) → A → OnOk r (P → B)
 tested-where {T} A B P (Ok x) is a = λ p. is a

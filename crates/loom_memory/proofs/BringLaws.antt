@@ -131,37 +131,37 @@ leaf-still pins x y s core now calm leaves out leaf = record {
 }
 
 -- so the buffer has its record still
-pub still-read : {H : Type 0} (host : Ghosts H) (m n : LoomMemory H) (s words : ℕ) → IsSound host m → IsSound host n → IsCalm m.pinned (core_of m.parts) (core_of n.parts) → ((t : ℕ) → place_of ((core_of m.parts).entries t).state ≡ None → place_of ((core_of n.parts).entries t).state ≡ None) → IsQuiet (loom_told host m) (loom_told host n) → n.buf ≡ m.buf
-    → 1 ≤ outside (core_of m.parts) s → place_of ((core_of m.parts).entries s).state ≡ None → IsRead (host.tells Work) m.buf (disk_of host m.disk.host.now m.disk.rest) ((core_of m.parts).entries s).name words
-    → IsRead (host.tells Work) n.buf (disk_of host n.disk.host.now n.disk.rest) ((core_of n.parts).entries s).name words
+pub still-read : {H : Type 0} (host : Ghosts H) (m n : LoomMemory H host) (s words : ℕ) → IsSound host m → IsSound host n → IsCalm m.pager.pinned (core_of m.pager.levels.parts) (core_of n.pager.levels.parts) → ((t : ℕ) → place_of ((core_of m.pager.levels.parts).entries t).state ≡ None → place_of ((core_of n.pager.levels.parts).entries t).state ≡ None) → IsQuiet (loom_told host m) (loom_told host n) → n.buf ≡ m.buf
+    → 1 ≤ outside (core_of m.pager.levels.parts) s → place_of ((core_of m.pager.levels.parts).entries s).state ≡ None → IsRead (host.tells Work) m.buf (disk_of host m.pager.levels.disk.host.now m.pager.levels.disk.rest) ((core_of m.pager.levels.parts).entries s).name words
+    → IsRead (host.tells Work) n.buf (disk_of host n.pager.levels.disk.host.now n.pager.levels.disk.rest) ((core_of n.pager.levels.parts).entries s).name words
 unfolding loom_told
 still-read {H} host m n s words sound after calm leaves quiet same out leaf read =
-    let still = leaf-still m.pinned (core_of m.parts) (core_of n.parts) s sound.kept.parts.core after.kept.parts.core calm leaves out leaf in
-    read-then (host.tells Work) (core_of m.parts) (core_of n.parts) (disk_of host m.disk.host.now m.disk.rest) (disk_of host n.disk.host.now n.disk.rest) m.ledger.next n.ledger.next s words m.buf n.buf sound.kept.parts.core after.kept.parts.core still.was leaf still.used still.leaf still.name
+    let still = leaf-still m.pager.pinned (core_of m.pager.levels.parts) (core_of n.pager.levels.parts) s sound.kept.parts.core after.kept.parts.core calm leaves out leaf in
+    read-then (host.tells Work) (core_of m.pager.levels.parts) (core_of n.pager.levels.parts) (disk_of host m.pager.levels.disk.host.now m.pager.levels.disk.rest) (disk_of host n.pager.levels.disk.host.now n.pager.levels.disk.rest) m.ledger.next n.ledger.next s words m.buf n.buf sound.kept.parts.core after.kept.parts.core still.was leaf still.used still.leaf still.name
     (ap (λ (z : Told). z.heap) quiet.same) same read
 
-pub quiet-same : {H : Type 0} (host : Ghosts H) (m : LoomMemory H) → IsQuiet (loom_told host m) (loom_told host m)
+pub quiet-same : {H : Type 0} (host : Ghosts H) (m : LoomMemory H host) → IsQuiet (loom_told host m) (loom_told host m)
 unfolding loom_told
 quiet-same {H} host m = record { same = refl; cache = left-refl (loom_told host m).cache; bounds = (refl, refl, refl, omega arith, omega arith); counts = (refl, sym (add-zero m.ledger.made)) }
 
 -- the object of a register, before and after room was made
-pub record IsNamed {H : Type 0} (host : Ghosts H) (m n : LoomMemory H) (of s : ℕ) : Type 0 where
-  pub used : is_used ((core_of n.parts).entries s).state ≡ true
-  pub out : 1 ≤ outside (core_of n.parts) s
-  pub has : IsTrue (host.tells Work) → Has (loom_told host n).heap ((core_of n.parts).entries s).name
-  pub name : (loom_told host m).regs of ≡ Ref ((core_of n.parts).entries s).name
+pub record IsNamed {H : Type 0} (host : Ghosts H) (m n : LoomMemory H host) (of s : ℕ) : Type 0 where
+  pub used : is_used ((core_of n.pager.levels.parts).entries s).state ≡ true
+  pub out : 1 ≤ outside (core_of n.pager.levels.parts) s
+  pub has : IsTrue (host.tells Work) → Has (loom_told host n).heap ((core_of n.pager.levels.parts).entries s).name
+  pub name : (loom_told host m).regs of ≡ Ref ((core_of n.pager.levels.parts).entries s).name
 
-pub named-then : {H : Type 0} (host : Ghosts H) (m n : LoomMemory H) (of s : ℕ) → IsSound host m → IsCore (core_of n.parts) → IsReady (loom_told host n) → IsRef ((loom_told host m).regs of) → s ≡ word_in m.regs of → IsCalm m.pinned (core_of m.parts) (core_of n.parts) → IsQuiet (loom_told host m) (loom_told host n) → IsNamed host m n of s
+pub named-then : {H : Type 0} (host : Ghosts H) (m n : LoomMemory H host) (of s : ℕ) → IsSound host m → IsCore (core_of n.pager.levels.parts) → IsReady (loom_told host n) → IsRef ((loom_told host m).regs of) → s ≡ word_in m.regs of → IsCalm m.pager.pinned (core_of m.pager.levels.parts) (core_of n.pager.levels.parts) → IsQuiet (loom_told host m) (loom_told host n) → IsNamed host m n of s
 unfolding loom_told
 named-then {H} host m n of s sound now ready ref same calm quiet =
-    let short : is_short (word_in m.regs of) ≡ true = ref-short (core_of m.parts) (word_in m.regs of) (sound.kept.filled of) ref in
+    let short : is_short (word_in m.regs of) ≡ true = ref-short (core_of m.pager.levels.parts) (word_in m.regs of) (sound.kept.filled of) ref in
     let is : is_short s ≡ true = subst (λ (w : ℕ). is_short w ≡ true) (sym same) short in
-    let held_ : 1 ≤ outside (core_of m.parts) s = subst (λ (w : ℕ). 1 ≤ outside (core_of m.parts) w) (sym same) (register-held (core_of m.parts) m.regs m.pinned of (word_in m.regs of) (kept-rooted m.parts m.regs m.pinned m.ledger sound.kept) (word-there m.regs of short) short) in
-    let out_ : 1 ≤ outside (core_of n.parts) s = subst (λ (k : ℕ). 1 ≤ k) (sym (calm.same_outside s)) held_ in
-    let name_ : (loom_told host m).regs of ≡ Ref ((core_of n.parts).entries s).name = ap (meant (core_of m.parts).entries [] 0) (sym same) ∙ meant-short (core_of m.parts).entries [] 0 s is ∙ ap Ref (sym (calm.live s held_)) in
+    let held_ : 1 ≤ outside (core_of m.pager.levels.parts) s = subst (λ (w : ℕ). 1 ≤ outside (core_of m.pager.levels.parts) w) (sym same) (register-held (core_of m.pager.levels.parts) m.regs m.pager.pinned of (word_in m.regs of) (kept-rooted m.pager.levels.parts m.regs m.pager.pinned m.ledger sound.kept) (word-there m.regs of short) short) in
+    let out_ : 1 ≤ outside (core_of n.pager.levels.parts) s = subst (λ (k : ℕ). 1 ≤ k) (sym (calm.same_outside s)) held_ in
+    let name_ : (loom_told host m).regs of ≡ Ref ((core_of n.pager.levels.parts).entries s).name = ap (meant (core_of m.pager.levels.parts).entries [] 0) (sym same) ∙ meant-short (core_of m.pager.levels.parts).entries [] 0 s is ∙ ap Ref (sym (calm.live s held_)) in
     record {
-      used = outside-used (core_of n.parts) s now out_;
+      used = outside-used (core_of n.pager.levels.parts) s now out_;
       out = out_;
-      has = λ told. (ready.whole told).rooted of ((core_of n.parts).entries s).name (ap (λ (z : Told). z.regs of) quiet.same ∙ name_);
+      has = λ told. (ready.whole told).rooted of ((core_of n.pager.levels.parts).entries s).name (ap (λ (z : Told). z.regs of) quiet.same ∙ name_);
       name = name_;
     }

@@ -133,17 +133,17 @@ row-need t (Mark k) of need target is = is
 row-need t (Say k) of need target is = is
 
 -- CoreFull with this need
-pub core-full : {H : Type 0} (host : Ghosts H) (m : LoomMemory H) (n : Told) (s words : ℕ) (need : Need) (x : MemFault) → IsSound host m → IsReady (loom_told host m) → is_used ((core_of m.parts).entries s).state ≡ true
-    → (IsTrue (host.tells Work) → words_at (loom_told host m).heap ((core_of m.parts).entries s).name ≡ words) → IsNeed (core_of m.parts) m.pinned s words need → (Fits m.ledger.core m.ledger.entries need.words need.entries → ⊥)
-    → n ≡ refused (loom_told host m) (CoreFull need) → x ≡ CoreFull need → (loom_told host m).refusals ≤ counted (loom_told host m).refusals → IsRefusedAt (loom_told host m) n ((core_of m.parts).entries s).name x
+pub core-full : {H : Type 0} (host : Ghosts H) (m : LoomMemory H host) (n : Told) (s words : ℕ) (need : Need) (x : MemFault) → IsSound host m → IsReady (loom_told host m) → is_used ((core_of m.pager.levels.parts).entries s).state ≡ true
+    → (IsTrue (host.tells Work) → words_at (loom_told host m).heap ((core_of m.pager.levels.parts).entries s).name ≡ words) → IsNeed (core_of m.pager.levels.parts) m.pager.pinned s words need → (Fits m.ledger.core m.ledger.entries need.words need.entries → ⊥)
+    → n ≡ refused (loom_told host m) (CoreFull need) → x ≡ CoreFull need → (loom_told host m).refusals ≤ counted (loom_told host m).refusals → IsRefusedAt (loom_told host m) n ((core_of m.pager.levels.parts).entries s).name x
 unfolding loom_told
 core-full {H} host m n s words need x sound ready used sized is unfit refuses same later = λ a of target named silent none.
     let t = loom_told host m in
     subst (λ (f : MemFault). IsRefused (loom_told host m) n a f) (sym same)
     (refused-quiet (loom_told host m) (loom_told host m) n a (CoreFull need) (record { same = refl; cache = left-refl (loom_told host m).cache; bounds = (refl, refl, refl, omega arith, omega arith); counts = (refl, sym (add-zero m.ledger.made)) }) refuses ready silent none later (
       subst (λ b. ForBounds b (λ b. Fits b.core b.entries need.words need.entries → ⊥)) (sym (ap (λ (z : Told). z.bounds) refuses)) unfit,
-      λ told. row-need (loom_told host m) a of need target (need-told (host.tells Work) (core_of m.parts) (disk_of host m.disk.host.now m.disk.rest) m.ledger.next s words m.pinned need told sound.kept.parts.core sound.kept.pinned used (sized told) is
-          ∙ sym (access-need (loom_told host m) a of ((core_of m.parts).entries s).name target named none)),
+      λ told. row-need (loom_told host m) a of need target (need-told (host.tells Work) (core_of m.pager.levels.parts) (disk_of host m.pager.levels.disk.host.now m.pager.levels.disk.rest) m.ledger.next s words m.pager.pinned need told sound.kept.parts.core sound.kept.pinned used (sized told) is
+          ∙ sym (access-need (loom_told host m) a of ((core_of m.pager.levels.parts).entries s).name target named none)),
     ))
 
 -- ---- a fault while room was made
@@ -178,8 +178,8 @@ purge-left (fault.Full held room) r P is = subst (λ (x : MemFault). LeavesAll x
 purge-left (fault.Damaged place about) r P is = subst (λ (x : MemFault). LeavesAll x P) (sym is) tt
 
 -- a failed call on Work leaves what is not in Work
-pub purge-refused : {H : Type 0} (host : Ghosts H) (m n : LoomMemory H) (w : Told) (a : Access) (f : DiskFault) (r x : MemFault) → n.ledger ≡ m.ledger → IsWorkOnly host m.disk.host.now n.disk.host.now → disk_room n.disk.rest ≡ disk_room m.disk.rest
-    → IsPurgeFault host m.disk.host.now n.disk.host.now f → IsRefusalOf f r → w ≡ refused (loom_told host n) r → x ≡ r → (loom_told host n).refusals ≤ counted (loom_told host n).refusals → IsSilent a → makes a ≡ 0 → IsRefused (loom_told host m) w a x
+pub purge-refused : {H : Type 0} (host : Ghosts H) (m n : LoomMemory H host) (w : Told) (a : Access) (f : DiskFault) (r x : MemFault) → n.ledger ≡ m.ledger → IsWorkOnly host m.pager.levels.disk.host.now n.pager.levels.disk.host.now → disk_room n.pager.levels.disk.rest ≡ disk_room m.pager.levels.disk.rest
+    → IsPurgeFault host m.pager.levels.disk.host.now n.pager.levels.disk.host.now f → IsRefusalOf f r → w ≡ refused (loom_told host n) r → x ≡ r → (loom_told host n).refusals ≤ counted (loom_told host n).refusals → IsSilent a → makes a ≡ 0 → IsRefused (loom_told host m) w a x
 unfolding loom_told
 purge-refused {H} host m n w a f r x ledger work room cause why refuses same later silent none =
     subst (λ (y : MemFault). IsRefused (loom_told host m) w a y) (sym same) (subst (λ (z : Told). IsRefused (loom_told host m) z a r) (sym refuses) (
@@ -200,7 +200,7 @@ purge-refused {H} host m n w a f r x ledger work room cause why refuses same lat
       },
     ))
   where
-    because : (f : DiskFault) (r : MemFault) → IsPurgeFault host m.disk.host.now n.disk.host.now f → IsRefusalOf f r → HasCause (loom_told host m) (refused (loom_told host n) r) (Does a) r
+    because : (f : DiskFault) (r : MemFault) → IsPurgeFault host m.pager.levels.disk.host.now n.pager.levels.disk.host.now f → IsRefusalOf f r → HasCause (loom_told host m) (refused (loom_told host n) r) (Does a) r
     because (fault.Work count) r cause is = subst (λ (y : MemFault). HasCause (loom_told host m) (refused (loom_told host n) r) (Does a) y) (sym is) (sym cause.0, cause.1)
     because (fault.Full held room) r cause is = subst (λ (y : MemFault). HasCause (loom_told host m) (refused (loom_told host n) r) (Does a) y) (sym is) cause
     because (fault.Damaged place about) r cause is = subst (λ (y : MemFault). HasCause (loom_told host m) (refused (loom_told host n) r) (Does a) y) (sym is) cause

@@ -1,5 +1,5 @@
 -- Objects come and go, and what registers and slots hold stays: what is told stays.
-use Rattle.std.proofs.Common.{◌/◌, ◌≡◌, ◌≢◌, ℕ, ◌+◌, ◌≤◌, Bool, true, false, cond, eqb, List, [], refl, sym, ◌∙◌, ap, subst, arith, Option, Some, None, IsTrue, ⊎_elim, Result, Ok, Err, add-zero}
+use Rattle.std.proofs.Common.{◌≡◌, ◌≢◌, ℕ, ◌+◌, ◌≤◌, Bool, true, false, cond, eqb, List, [], refl, sym, ◌∙◌, ap, subst, arith, Option, Some, None, IsTrue, ⊎_elim, add-zero}
 use Rattle.std.proofs.lemmas.Grind.{common_steps}
 use Rattle.std.proofs.lemmas.Bool.{cases_eq}
 use Rattle.std.proofs.Math.Path.{fun_ext}
@@ -15,8 +15,6 @@ use Rattle.core_segment.specs.Segment.{size_of}
 use Rattle.disk_objects.specs.declared.rest.DiskRest.{DiskRest}
 use Rattle.disk_objects.specs.Disk.{disk_room, disk_held}
 use Rattle.disk_objects.specs.Calls.{HoldsObjects}
-use Rattle.purger.specs.declared.room.RoomFault.{RoomFault}
-use Rattle.purger.specs.declared.room.RoomFault.TheVariants.{Short, Disk as OfDisk}
 use Rattle.core_view.specs.Core.{Core}
 use Rattle.core_view.specs.Words.{meant}
 use Rattle.core_view.specs.Held.{Disk, held}
@@ -31,11 +29,9 @@ use Rattle.core_view.specs.Room.{is_among}
 use Rattle.core_view.specs.Kept.{IsTight}
 use Rattle.disk_objects.specs.Function.{disk_of}
 use Rattle.core_view.specs.Purge.{IsPurged, fresh_of}
-use Rattle.purger.specs.Purge.{Undisturbed}
-use Rattle.loom_memory.specs.Memory.{word_in, pin_in, name_if, heap_if, told_of, IsPinned, IsKept, IsOver, IsExact, IsCalm, IsQuiet, IsThin, IsSound, Others, others_of}
+use Rattle.loom_memory.specs.Memory.{word_in, pin_in, name_if, heap_if, told_of, IsPinned, IsKept, IsOver, IsCalm, IsQuiet, Others, others_of}
 use Rattle.loom_memory.specs.Numbers.{IsNumbered}
 use Rattle.core_view.specs.Kept.{IsValued}
-use Rattle.loom_memory.specs.declared.memory.LoomMemory.{LoomMemory}
 use Rattle.core_view.specs.Counts.{marked_of}
 use Rattle.method_cache.specs.Found.{found}
 use Rattle.purger.specs.Marks.{AreHere, LeavesMarks}
@@ -189,13 +185,6 @@ quiet-is {H} host old new rest now x y regs pins k root core cached calm work ro
   counts = (refl, sym (add-zero k.made));
 }
 
-pub quiet-if : {T H : Type 0} (host : Ghosts H) (r : Result T RoomFault) (old new : H) (rest now : DiskRest) (x y : Core) (regs : List ℕ) (pins : Pinned) (k : Ledger) → IsRooted x regs pins → IsCore y → IsCached x (found k.rows) k.mark → IsCalm pins x y → IsWorkOnly host old new → disk_room now ≡ disk_room rest
-    → (IsTrue (host.tells Work) → Undisturbed r (KeepsOver x (disk_of host old rest) y (disk_of host new now)))
-    → Undisturbed r (IsQuiet (told_of host old rest x regs pins k) (told_of host new now y regs pins k))
-quiet-if {T} {H} host (Ok v) old new rest now x y regs pins k root core cached calm work room keeps = quiet-is host old new rest now x y regs pins k root core cached calm work room (λ told. (keeps told).held)
-quiet-if {T} {H} host (Err Short) old new rest now x y regs pins k root core cached calm work room keeps = quiet-is host old new rest now x y regs pins k root core cached calm work room (λ told. (keeps told).held)
-quiet-if {T} {H} host (Err (OfDisk f)) old new rest now x y regs pins k root core cached calm work room keeps = tt
-
 pub over-is : {H : Type 0} (host : Ghosts H) (old new : H) (rest now : DiskRest) (x y : Core) (k : Ledger) → IsOver host old rest x k → disk_room now ≡ disk_room rest → HoldsObjects host new now
     → (IsTrue (host.tells Work) → KeepsOver x (disk_of host old rest) y (disk_of host new now)) → (IsTrue (host.tells Work) → disk_held now + fresh_of y ≡ disk_held rest + fresh_of x) → IsOver host new now y k
 over-is {H} host old new rest now x y k over room stands keeps counts = record {
@@ -217,19 +206,6 @@ read-over {H} host old new rest now c k over stands is same = record {
   based = subst (λ (n : ℕ). IsNumbered k.base k.made k.held k.next n) (sym (ap disk_room is)) over.based;
   valued = λ told. subst (λ (d : Disk). IsValued (held c d)) (sym same) (over.valued told);
 }
-
-pub sound-if : {T H : Type 0} (host : Ghosts H) (r : Result T RoomFault) (old new : H) (rest now : DiskRest) (x y : Core) (k : Ledger) → IsOver host old rest x k → disk_room now ≡ disk_room rest → Undisturbed r (HoldsObjects host new now)
-    → (IsTrue (host.tells Work) → Undisturbed r (KeepsOver x (disk_of host old rest) y (disk_of host new now)))
-    → (IsTrue (host.tells Work) → Undisturbed r (disk_held now + fresh_of y ≡ disk_held rest + fresh_of x))
-    → Undisturbed r (IsOver host new now y k)
-sound-if {T} {H} host (Ok v) old new rest now x y k over room stands keeps counts = over-is host old new rest now x y k over room stands keeps counts
-sound-if {T} {H} host (Err Short) old new rest now x y k over room stands keeps counts = over-is host old new rest now x y k over room stands keeps counts
-sound-if {T} {H} host (Err (OfDisk f)) old new rest now x y k over room stands keeps counts = tt
-
-pub kept-if : {T H : Type 0} (host : Ghosts H) (r : Result T RoomFault) (m : LoomMemory H) → IsKept m.parts m.regs m.pinned m.ledger → Undisturbed r (IsOver host m.disk.host.now m.disk.rest (core_of m.parts) m.ledger) → Undisturbed r (IsExact host m.parts m.disk.host.now m.disk.rest m.ledger.next []) → Undisturbed r (IsThin host m) → m.due ≤ m.ledger.next + m.ledger.entries / 8 → Undisturbed r (IsSound host m)
-kept-if {T} {H} host (Ok v) m kept over exact thin soon = record { kept = kept; over = over; exact = exact; thin = thin; soon = soon }
-kept-if {T} {H} host (Err Short) m kept over exact thin soon = record { kept = kept; over = over; exact = exact; thin = thin; soon = soon }
-kept-if {T} {H} host (Err (OfDisk f)) m kept over exact thin soon = tt
 
 -- what is told of a store: the heap changes, and all marks may go
 pub store-told : {H : Type 0} (host : Ghosts H) (now : H) (rest : DiskRest) (x y : Core) (regs : List ℕ) (pins : Pinned) (k : Ledger) → IsRooted x regs pins → IsCalm pins x y

@@ -24,7 +24,7 @@ use Rattle.loom_memory.proofs.GentleLaws.{entry-at}
 use Rattle.loom_memory.specs.Damage.{IsDamageOf, IsDamaged, IsUndamaged, words_read}
 
 -- the name of a register's object, after a step that thins the heap
-thinned-name : {H : Type 0} (host : Ghosts H) (m u : LoomMemory H) (of s : ℕ) → IsSound host u → HasThinned (loom_told host m) (loom_told host u) → IsRef ((loom_told host m).regs of) → s ≡ word_in u.regs of → name_at ((loom_told host m).regs of) ≡ ((core_of u.parts).entries s).name
+thinned-name : {H : Type 0} (host : Ghosts H) (m u : LoomMemory H host) (of s : ℕ) → IsSound host u → HasThinned (loom_told host m) (loom_told host u) → IsRef ((loom_told host m).regs of) → s ≡ word_in u.regs of → name_at ((loom_told host m).regs of) ≡ ((core_of u.pager.levels.parts).entries s).name
 thinned-name {H} host m u of s sound thin ref same =
     let regs : (loom_told host u).regs of ≡ (loom_told host m).regs of = ap (λ (t : Told). t.regs of) thin.same in
     ap name_at (sym regs ∙ (entry-at host u of s sound (subst IsRef (sym regs) ref) same).name)
@@ -50,25 +50,25 @@ damage-name {T} (Ok x) rest n k same is = tt
 damage-name {T} (Err f) rest n k same is = subst (λ (z : ℕ). IsDamageOf rest z f) same is
 
 -- after the record was read
-pub damage-read : {T H : Type 0} (r : Result T MemFault) (m u n : LoomMemory H) (s words : ℕ) → u.parts ≡ m.parts → n.buf ≡ u.buf → 4 + body_words (object_in (raw_of u.buf)).body ≡ words
-    → IfErr r (λ f. HasRoom u.parts words 27 → IsDamageOf n.disk.rest ((core_of u.parts).entries s).name f) → IsDamaged m n ((core_of m.parts).entries s).name r
-damage-read {T} {H} (Ok x) m u n s words parts buf size is = tt
-damage-read {T} {H} (Err f) m u n s words parts buf size is = λ room.
+pub damage-read : {T H : Type 0} {host : Ghosts H} (r : Result T MemFault) (m u n : LoomMemory H host) (s words : ℕ) → u.pager.levels.parts ≡ m.pager.levels.parts → n.buf ≡ u.buf → 4 + body_words (object_in (raw_of u.buf)).body ≡ words
+    → IfErr r (λ f. HasRoom u.pager.levels.parts words 27 → IsDamageOf n.pager.levels.disk.rest ((core_of u.pager.levels.parts).entries s).name f) → IsDamaged m n ((core_of m.pager.levels.parts).entries s).name r
+damage-read {T} {H} {host} (Ok x) m u n s words parts buf size is = tt
+damage-read {T} {H} {host} (Err f) m u n s words parts buf size is = λ room.
     let words_is : words_read n ≡ words = ap (λ (bytes : List ℕ). 4 + body_words (object_in (raw_of bytes)).body) buf ∙ size in
-    let there : HasRoom u.parts words 27 = subst (λ (p : Parts). HasRoom p words 27) (sym parts) (subst (λ (k : ℕ). HasRoom m.parts k 27) words_is room) in
-    subst (λ (p : Parts). IsDamageOf n.disk.rest ((core_of p).entries s).name f) parts (is there)
+    let there : HasRoom u.pager.levels.parts words 27 = subst (λ (p : Parts). HasRoom p words 27) (sym parts) (subst (λ (k : ℕ). HasRoom m.pager.levels.parts k 27) words_is room) in
+    subst (λ (p : Parts). IsDamageOf n.pager.levels.disk.rest ((core_of p).entries s).name f) parts (is there)
 
 -- room is as before a step that did nothing
-pub room-same : {H : Type 0} (m u : LoomMemory H) (words : ℕ) → u ≡ m → HasRoom m.parts words 27 → HasRoom u.parts words 27
-room-same {H} m u words same room = subst (λ (z : LoomMemory H). HasRoom z.parts words 27) (sym same) room
+pub room-same : {H : Type 0} {host : Ghosts H} (m u : LoomMemory H host) (words : ℕ) → u ≡ m → HasRoom m.pager.levels.parts words 27 → HasRoom u.pager.levels.parts words 27
+room-same {H} {host} m u words same room = subst (λ (z : LoomMemory H host). HasRoom z.pager.levels.parts words 27) (sym same) room
 
 -- what the object of a register lacks
-pub amiss-damage : {H : Type 0} (host : Ghosts H) (m u : LoomMemory H) (of s : ℕ) (rest : DiskRest) (r : MemFault) → IsSound host u → HasThinned (loom_told host m) (loom_told host u) → IsRef ((loom_told host m).regs of) → s ≡ word_in u.regs of → r ≡ Damaged NOWHERE ((core_of u.parts).entries s).name
+pub amiss-damage : {H : Type 0} (host : Ghosts H) (m u : LoomMemory H host) (of s : ℕ) (rest : DiskRest) (r : MemFault) → IsSound host u → HasThinned (loom_told host m) (loom_told host u) → IsRef ((loom_told host m).regs of) → s ≡ word_in u.regs of → r ≡ Damaged NOWHERE ((core_of u.pager.levels.parts).entries s).name
     → IsDamageOf rest (name_at ((loom_told host m).regs of)) r
 amiss-damage {H} host m u of s rest r sound thin ref same is =
     nowhere-damage rest (name_at ((loom_told host m).regs of)) r (is ∙ ap (Damaged NOWHERE) (sym (thinned-name host m u of s sound thin ref same)))
 
-pub thinned-damage : {T H : Type 0} (r : Result T MemFault) (host : Ghosts H) (m u : LoomMemory H) (of s : ℕ) (rest : DiskRest) (room : Type 0) → IsSound host u → HasThinned (loom_told host m) (loom_told host u) → IsRef ((loom_told host m).regs of) → s ≡ word_in u.regs of → IfErr r (IsDamageOf rest ((core_of u.parts).entries s).name)
+pub thinned-damage : {T H : Type 0} (r : Result T MemFault) (host : Ghosts H) (m u : LoomMemory H host) (of s : ℕ) (rest : DiskRest) (room : Type 0) → IsSound host u → HasThinned (loom_told host m) (loom_told host u) → IsRef ((loom_told host m).regs of) → s ≡ word_in u.regs of → IfErr r (IsDamageOf rest ((core_of u.pager.levels.parts).entries s).name)
     → IfErr r (λ f. room → IsDamageOf rest (name_at ((loom_told host m).regs of)) f)
 thinned-damage {T} {H} (Ok x) host m u of s rest room sound thin ref same is = tt
 thinned-damage {T} {H} (Err f) host m u of s rest room sound thin ref same is = λ there. subst (λ (k : ℕ). IsDamageOf rest k f) (sym (thinned-name host m u of s sound thin ref same)) is
@@ -83,6 +83,6 @@ undamaged-each rest name NamesSpent none = tt
 undamaged-each rest name (Said count) none = tt
 undamaged-each rest name Memory none = tt
 
-pub undamaged-of : {T H : Type 0} (r : Result T MemFault) (m n : LoomMemory H) (name : ℕ) → IfErr r IsUndamaged → IsDamaged m n name r
-undamaged-of {T} {H} (Ok x) m n name none = tt
-undamaged-of {T} {H} (Err f) m n name none = λ room. undamaged-each n.disk.rest name f none
+pub undamaged-of : {T H : Type 0} {host : Ghosts H} (r : Result T MemFault) (m n : LoomMemory H host) (name : ℕ) → IfErr r IsUndamaged → IsDamaged m n name r
+undamaged-of {T} {H} {host} (Ok x) m n name none = tt
+undamaged-of {T} {H} {host} (Err f) m n name none = λ room. undamaged-each n.pager.levels.disk.rest name f none

@@ -1,14 +1,11 @@
 -- Nothing is dead: what leaves it so, and what follows of it.
-use Rattle.std.proofs.Common.{◌≡◌, ◌⊎◌, ⊎_elim, ℕ, ◌<◌, Bool, true, false, Option, IsTrue, refl, sym, ◌∙◌, ap, subst, arith, Result, Ok, Err}
+use Rattle.std.proofs.Common.{◌≡◌, ◌⊎◌, ⊎_elim, ℕ, ◌<◌, Bool, true, false, Option, IsTrue, refl, sym, ◌∙◌, ap, subst, arith}
 use Rattle.long_names.specs.Names.{is_known}
 use Rattle.long_names.specs.Heap.{count_of}
 use Rattle.long_names.specs.Kept.{kept}
 use Rattle.long_names.proofs.CountLaws.{kept-rooted}
 use Rattle.loom_host.specs.declared.outside.Host.{Ghosts}
 use Rattle.object_memory.specs.Told.{Told, is_root}
-use Rattle.purger.specs.declared.room.RoomFault.{RoomFault}
-use Rattle.purger.specs.declared.room.RoomFault.TheVariants.{Short as TooFew, Disk as OfDisk}
-use Rattle.purger.specs.Purge.{Undisturbed}
 use Rattle.object_memory.specs.declared.fault.MemFault.{MemFault}
 use Rattle.loom_memory.specs.declared.ledger.Ledger.{Ledger}
 use Rattle.loom_memory.specs.declared.memory.LoomMemory.{LoomMemory}
@@ -36,39 +33,33 @@ nothing-kept t told none = kept-rooted t.heap (is_root t) (λ q there unknown ou
 
 -- ---- a memory
 
-pub thin-none : {H : Type 0} (host : Ghosts H) (m : LoomMemory H) → IsThin host m → m.thinned ≡ true → NothingDead (loom_told host m)
+pub thin-none : {H : Type 0} (host : Ghosts H) (m : LoomMemory H host) → IsThin host m → m.thinned ≡ true → NothingDead (loom_told host m)
 unfolding IsThin
 thin-none host m thin on = thin on
 
-pub thin-is : {H : Type 0} (host : Ghosts H) (m : LoomMemory H) → (m.thinned ≡ true → NothingDead (loom_told host m)) → IsThin host m
+pub thin-is : {H : Type 0} (host : Ghosts H) (m : LoomMemory H host) → (m.thinned ≡ true → NothingDead (loom_told host m)) → IsThin host m
 unfolding IsThin
 thin-is host m none = none
 
-pub thin-of : {H : Type 0} (host : Ghosts H) (m n : LoomMemory H) → IsThin host m → (n.thinned ≡ true → m.thinned ≡ true) → (loom_told host n).heap ≡ (loom_told host m).heap → (loom_told host n).regs ≡ (loom_told host m).regs → (loom_told host n).slots ≡ (loom_told host m).slots → IsThin host n
+pub thin-of : {H : Type 0} (host : Ghosts H) (m n : LoomMemory H host) → IsThin host m → (n.thinned ≡ true → m.thinned ≡ true) → (loom_told host n).heap ≡ (loom_told host m).heap → (loom_told host n).regs ≡ (loom_told host m).regs → (loom_told host n).slots ≡ (loom_told host m).slots → IsThin host n
 unfolding loom_told IsThin
 thin-of host m n thin was heap regs slots = λ on. dead-same (loom_told host m) (loom_told host n) refl heap regs slots (thin (was on))
 
 -- all that is told is the same
-pub thin-told : {H : Type 0} (host : Ghosts H) (m n : LoomMemory H) → IsThin host m → (n.thinned ≡ true → m.thinned ≡ true) → loom_told host n ≡ loom_told host m → IsThin host n
+pub thin-told : {H : Type 0} (host : Ghosts H) (m n : LoomMemory H host) → IsThin host m → (n.thinned ≡ true → m.thinned ≡ true) → loom_told host n ≡ loom_told host m → IsThin host n
 thin-told host m n thin was same = thin-of host m n thin was (ap (λ (t : Told). t.heap) same) (ap (λ (t : Told). t.regs) same) (ap (λ (t : Told). t.slots) same)
 
 -- or nothing but counts of faults and marks changed
-pub thin-quiet : {H : Type 0} (host : Ghosts H) (m n : LoomMemory H) → IsThin host m → (n.thinned ≡ true → m.thinned ≡ true) → IsQuiet (loom_told host m) (loom_told host n) → IsThin host n
+pub thin-quiet : {H : Type 0} (host : Ghosts H) (m n : LoomMemory H host) → IsThin host m → (n.thinned ≡ true → m.thinned ≡ true) → IsQuiet (loom_told host m) (loom_told host n) → IsThin host n
 thin-quiet host m n thin was quiet = thin-of host m n thin was (ap (λ (t : Told). t.heap) quiet.same) (ap (λ (t : Told). t.regs) quiet.same) (ap (λ (t : Told). t.slots) quiet.same)
 
 -- it says nothing
-pub thin-off : {H : Type 0} (host : Ghosts H) (n : LoomMemory H) → n.thinned ≡ false → IsThin host n
+pub thin-off : {H : Type 0} (host : Ghosts H) (n : LoomMemory H host) → n.thinned ≡ false → IsThin host n
 unfolding IsThin
 thin-off host n off = λ on. absurd (let both : true ≡ false = sym on ∙ off in cc)
 
--- where room was made
-pub thin-if : {T H : Type 0} (host : Ghosts H) (r : Result T RoomFault) (m n : LoomMemory H) → IsThin host m → (n.thinned ≡ true → m.thinned ≡ true) → Undisturbed r (IsQuiet (loom_told host m) (loom_told host n)) → Undisturbed r (IsThin host n)
-thin-if host (Ok v) m n thin was quiet = thin-quiet host m n thin was quiet
-thin-if host (Err TooFew) m n thin was quiet = thin-quiet host m n thin was quiet
-thin-if host (Err (OfDisk f)) m n thin was quiet = tt
-
 -- a call was refused
-pub refused-sound : {H : Type 0} (host : Ghosts H) (m : LoomMemory H) (l : Ledger) (n : ℕ) (f : Option MemFault) → l ≡ record m.ledger { refusals = n; last = f } → IsSound host m → IsSound host (record m { ledger = l })
+pub refused-sound : {H : Type 0} (host : Ghosts H) (m : LoomMemory H host) (l : Ledger) (n : ℕ) (f : Option MemFault) → l ≡ record m.ledger { refusals = n; last = f } → IsSound host m → IsSound host (record m { ledger = l })
 unfolding loom_told IsThin
 refused-sound host m l n f is sound =
     let kept = sound.kept in

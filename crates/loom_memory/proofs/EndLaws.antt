@@ -32,8 +32,8 @@ pub quiet-called : (t u : Told) → IsQuiet t u → Called {A = Unit {0}} t u Th
 quiet-called t u quiet = record { later = quiet-later t u quiet; ok = quiet-thins t u quiet; err = tt }
 
 -- a failed call on Work leaves what is not in Work
-pub thins-refused : {H : Type 0} (host : Ghosts H) (m n : LoomMemory H) (w : Told) (f : DiskFault) (r x : MemFault) → n.ledger ≡ m.ledger → IsWorkOnly host m.disk.host.now n.disk.host.now → disk_room n.disk.rest ≡ disk_room m.disk.rest
-    → IsPurgeFault host m.disk.host.now n.disk.host.now f → IsRefusalOf f r → w ≡ refused (loom_told host n) r → x ≡ r → (loom_told host n).refusals ≤ counted (loom_told host n).refusals → Called {A = Unit {0}} (loom_told host m) w Thins (Err x)
+pub thins-refused : {H : Type 0} (host : Ghosts H) (m n : LoomMemory H host) (w : Told) (f : DiskFault) (r x : MemFault) → n.ledger ≡ m.ledger → IsWorkOnly host m.pager.levels.disk.host.now n.pager.levels.disk.host.now → disk_room n.pager.levels.disk.rest ≡ disk_room m.pager.levels.disk.rest
+    → IsPurgeFault host m.pager.levels.disk.host.now n.pager.levels.disk.host.now f → IsRefusalOf f r → w ≡ refused (loom_told host n) r → x ≡ r → (loom_told host n).refusals ≤ counted (loom_told host n).refusals → Called {A = Unit {0}} (loom_told host m) w Thins (Err x)
 unfolding loom_told
 thins-refused {H} host m n w f r x ledger work room cause why refuses same later =
     subst (λ (y : MemFault). Called {A = Unit {0}} (loom_told host m) w Thins (Err y)) (sym same) (subst (λ (z : Told). Called {A = Unit {0}} (loom_told host m) z Thins (Err r)) (sym refuses) (record {
@@ -55,7 +55,7 @@ thins-refused {H} host m n w f r x ledger work room cause why refuses same later
       };
     }))
   where
-    because : (f : DiskFault) (r : MemFault) → IsPurgeFault host m.disk.host.now n.disk.host.now f → IsRefusalOf f r → HasCause (loom_told host m) (refused (loom_told host n) r) Thins r
+    because : (f : DiskFault) (r : MemFault) → IsPurgeFault host m.pager.levels.disk.host.now n.pager.levels.disk.host.now f → IsRefusalOf f r → HasCause (loom_told host m) (refused (loom_told host n) r) Thins r
     because (fault.Work count) r cause is = subst (λ (y : MemFault). HasCause (loom_told host m) (refused (loom_told host n) r) Thins y) (sym is) (sym cause.0, cause.1)
     because (fault.Full held room) r cause is = subst (λ (y : MemFault). HasCause (loom_told host m) (refused (loom_told host n) r) Thins y) (sym is) cause
     because (fault.Damaged place about) r cause is = subst (λ (y : MemFault). HasCause (loom_told host m) (refused (loom_told host n) r) Thins y) (sym is) cause

@@ -99,53 +99,53 @@ empty-pin c w is = go (eqb w 0) refl is
     go true e f = eqb-true w 0 e
     go false e f = absurd (let bad : Some (c.entries w).name ≡ None = f in cc)
 
-pub loose-told : {H : Type 0} (host : Ghosts H) (m : LoomMemory H) → IsKept m.parts m.regs m.pinned m.ledger → AreNumbers (loom_told host m).regs → ((i : ℕ) → i < 3 → (loom_told host m).slots i ≡ None) → (t : ℕ) → outside (core_of m.parts) t ≡ 0
+pub loose-told : {H : Type 0} (host : Ghosts H) (m : LoomMemory H host) → IsKept m.pager.levels.parts m.regs m.pager.pinned m.ledger → AreNumbers (loom_told host m).regs → ((i : ℕ) → i < 3 → (loom_told host m).slots i ≡ None) → (t : ℕ) → outside (core_of m.pager.levels.parts) t ≡ 0
 unfolding loom_told
 loose-told host m kept numbers none t =
-    let regs = none-named t m.regs (λ r low. let number = numbers r (let many = kept.many in omega (arith, low, many)) in number-odd (core_of m.parts) (word_in m.regs r) number.0 number.1) in
-    let split = count-append t m.regs (m.pinned.a ∷ (m.pinned.b ∷ (m.pinned.d ∷ []))) in
+    let regs = none-named t m.regs (λ r low. let number = numbers r (let many = kept.many in omega (arith, low, many)) in number-odd (core_of m.pager.levels.parts) (word_in m.regs r) number.0 number.1) in
+    let split = count-append t m.regs (m.pager.pinned.a ∷ (m.pager.pinned.b ∷ (m.pager.pinned.d ∷ []))) in
     let is = kept.rooted t in
     omega (arith, regs, split, is, pins)
   where
     zero-pin : (w : ℕ) → w ≡ 0 → names t w ≡ false
     zero-pin w e = ap (names t) e ∙ zero-names t
 
-    pins : count_by (names t) (m.pinned.a ∷ (m.pinned.b ∷ (m.pinned.d ∷ []))) ≡ 0
-    pins = not-one t m.pinned.a (zero-pin m.pinned.a (empty-pin (core_of m.parts) m.pinned.a (none 0 (omega arith)))) (m.pinned.b ∷ (m.pinned.d ∷ []))
-        (not-one t m.pinned.b (zero-pin m.pinned.b (empty-pin (core_of m.parts) m.pinned.b (none 1 (omega arith)))) (m.pinned.d ∷ [])
-        (not-one t m.pinned.d (zero-pin m.pinned.d (empty-pin (core_of m.parts) m.pinned.d (none 2 (omega arith)))) [] refl))
+    pins : count_by (names t) (m.pager.pinned.a ∷ (m.pager.pinned.b ∷ (m.pager.pinned.d ∷ []))) ≡ 0
+    pins = not-one t m.pager.pinned.a (zero-pin m.pager.pinned.a (empty-pin (core_of m.pager.levels.parts) m.pager.pinned.a (none 0 (omega arith)))) (m.pager.pinned.b ∷ (m.pager.pinned.d ∷ []))
+        (not-one t m.pager.pinned.b (zero-pin m.pager.pinned.b (empty-pin (core_of m.pager.levels.parts) m.pager.pinned.b (none 1 (omega arith)))) (m.pager.pinned.d ∷ [])
+        (not-one t m.pager.pinned.d (zero-pin m.pager.pinned.d (empty-pin (core_of m.pager.levels.parts) m.pager.pinned.d (none 2 (omega arith)))) [] refl))
 
 -- ---- what is left on disk
 
-pub kept-left : {H : Type 0} (host : Ghosts H) (m : LoomMemory H) (now : H) (rest : DiskRest) (h : Heap) → IsExact host m.parts m.disk.host.now m.disk.rest m.ledger.next [] → (loom_told host m).heap ≡ h → IsTrue (host.tells Work)
-    → LeavesKept host m.parts m.disk.host.now m.disk.rest now rest → HasKept host now rest h
+pub kept-left : {H : Type 0} (host : Ghosts H) (m : LoomMemory H host) (now : H) (rest : DiskRest) (h : Heap) → IsExact host m.pager.levels.parts m.pager.levels.disk.host.now m.pager.levels.disk.rest m.ledger.next [] → (loom_told host m).heap ≡ h → IsTrue (host.tells Work)
+    → LeavesKept host m.pager.levels.parts m.pager.levels.disk.host.now m.pager.levels.disk.rest now rest → HasKept host now rest h
 unfolding loom_told
 kept-left host m now rest h x is told kept =
     let e = x told in
-    subst (λ (g : Heap). HasKept host now rest g) (sym (levels-told host m.parts m.disk.host.now m.disk.rest e.0 m.ledger.next e.1 e.3 told) ∙ is) (kept e.0 e.1 e.2)
+    subst (λ (g : Heap). HasKept host now rest g) (sym (levels-told host m.pager.levels.parts m.pager.levels.disk.host.now m.pager.levels.disk.rest e.0 m.ledger.next e.1 e.3 told) ∙ is) (kept e.0 e.1 e.2)
 
 -- ---- why it failed, and what was said
 
 -- registers and slots are no cause
-pub let-cause : {H : Type 0} (host : Ghosts H) (m n : LoomMemory H) (t w : Told) (f : DiskFault) (r x : MemFault) → (loom_told host m).tells ≡ t.tells → (loom_told host m).bounds ≡ t.bounds
-    → IsPurgeFault host m.disk.host.now n.disk.host.now f → IsRefusalOf f r → w ≡ refused (loom_told host n) r → x ≡ r → HasCause t w Thins x
+pub let-cause : {H : Type 0} (host : Ghosts H) (m n : LoomMemory H host) (t w : Told) (f : DiskFault) (r x : MemFault) → (loom_told host m).tells ≡ t.tells → (loom_told host m).bounds ≡ t.bounds
+    → IsPurgeFault host m.pager.levels.disk.host.now n.pager.levels.disk.host.now f → IsRefusalOf f r → w ≡ refused (loom_told host n) r → x ≡ r → HasCause t w Thins x
 unfolding loom_told
 let-cause {H} host m n t w f r x tells bounds cause why refuses same =
     subst (λ (y : MemFault). HasCause t w Thins y) (sym same) (subst (λ (z : Told). HasCause t z Thins r) (sym refuses) (because f r cause why))
   where
-    because : (f : DiskFault) (r : MemFault) → IsPurgeFault host m.disk.host.now n.disk.host.now f → IsRefusalOf f r → HasCause t (refused (loom_told host n) r) Thins r
+    because : (f : DiskFault) (r : MemFault) → IsPurgeFault host m.pager.levels.disk.host.now n.pager.levels.disk.host.now f → IsRefusalOf f r → HasCause t (refused (loom_told host n) r) Thins r
     because (fault.Work count) r cause is =
         subst (λ (y : MemFault). HasCause t (refused (loom_told host n) r) Thins y) (sym is)
-        (sym cause.0, subst (λ (b : Option Bounds). Rose (work_faults b) (host.faults n.disk.host.now Work)) bounds cause.1)
+        (sym cause.0, subst (λ (b : Option Bounds). Rose (work_faults b) (host.faults n.pager.levels.disk.host.now Work)) bounds cause.1)
     because (fault.Full held room) r cause is = subst (λ (y : MemFault). HasCause t (refused (loom_told host n) r) Thins y) (sym is) (subst (λ (b : Bool). IsTrue b → ⊥) tells cause)
     because (fault.Damaged place about) r cause is = subst (λ (y : MemFault). HasCause t (refused (loom_told host n) r) Thins y) (sym is) (subst (λ (b : Bool). IsTrue b → ⊥) tells cause)
 
 -- a call on Work says nothing
-pub work-silent : {H : Type 0} (host : Ghosts H) (m n : LoomMemory H) → IsWorkOnly host m.disk.host.now n.disk.host.now → (loom_told host n).transcript ≡ (loom_told host m).transcript
+pub work-silent : {H : Type 0} (host : Ghosts H) (m n : LoomMemory H host) → IsWorkOnly host m.pager.levels.disk.host.now n.pager.levels.disk.host.now → (loom_told host n).transcript ≡ (loom_told host m).transcript
 unfolding loom_told
 work-silent host m n work = ap (λ (s : RoleState). s.put) (work.others Transcript transcript-away)
 
 -- and leaves the bounds
-pub work-bounds : {H : Type 0} (host : Ghosts H) (m n : LoomMemory H) → IsWorkOnly host m.disk.host.now n.disk.host.now → disk_room n.disk.rest ≡ disk_room m.disk.rest → n.ledger ≡ m.ledger → SameBounds (loom_told host m).bounds (loom_told host n).bounds
+pub work-bounds : {H : Type 0} (host : Ghosts H) (m n : LoomMemory H host) → IsWorkOnly host m.pager.levels.disk.host.now n.pager.levels.disk.host.now → disk_room n.pager.levels.disk.rest ≡ disk_room m.pager.levels.disk.rest → n.ledger ≡ m.ledger → SameBounds (loom_told host m).bounds (loom_told host n).bounds
 unfolding loom_told
 work-bounds host m n work room same = (ap (λ (k : Ledger). k.core) same, ap (λ (k : Ledger). k.entries) same, room, work.later, let said = work.other_faults Transcript transcript-away in omega (arith, said))

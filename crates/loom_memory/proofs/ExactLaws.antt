@@ -1,5 +1,5 @@
 -- Counts stay exact: what each kind of step leaves of the levels.
-use Rattle.std.proofs.Common.{is_some, ◌≡◌, ◌≢◌, ℕ, pos, ◌+ℤ◌, ◌+◌, ◌<◌, ◌≤◌, Bool, true, false, List, [], Option, Some, None, IsTrue, Result, Ok, Err, refl, sym, ◌∙◌, ap, ap₂, subst, arith}
+use Rattle.std.proofs.Common.{is_some, ◌≡◌, ◌≢◌, ℕ, pos, ◌+ℤ◌, ◌+◌, ◌<◌, ◌≤◌, Bool, true, false, List, [], Option, Some, None, IsTrue, refl, sym, ◌∙◌, ap, ap₂, subst, arith}
 use Rattle.std.specs.Prelude.{◌^◌, ◌||◌, IfSome, IfNone}
 use Rattle.long_names.specs.declared.value.Value.{Value}
 use Rattle.long_names.specs.declared.value.Value.TheVariants.{Int, Ref}
@@ -39,9 +39,6 @@ use Rattle.counted_core.proofs.CameLaws.{came-sound, counted-quiet, known-quiet}
 use Rattle.counted_core.proofs.QueueLaws.{entered-waits}
 use Rattle.counted_core.proofs.DeadLaws.{bounded}
 use Rattle.delta_counts.specs.At.{IsStoredIn}
-use Rattle.purger.specs.declared.room.RoomFault.{RoomFault}
-use Rattle.purger.specs.declared.room.RoomFault.TheVariants.{Short as TooFew, Disk as OfDisk}
-use Rattle.purger.specs.Purge.{Undisturbed}
 use Rattle.purger.specs.Counts.{StandsFor, HasSound, KeepsCounts, KeepsSound}
 use Rattle.purger.proofs.NamingLaws.{counts-free, brought-sound}
 use Rattle.purger.proofs.SoundLaws.{core-is, core-at, disk-at, core-sound, stored-read}
@@ -62,11 +59,6 @@ exact-then host p q was now before rest n x f told =
     let e = x told in
     let r = f told e.0 e.1 e.2 in
     (r.levels, r.at, r.sound, ap (λ (h : Heap). h.next) r.heap ∙ e.3)
-
-pub exact-if : {T H : Type 0} (host : Ghosts H) (r : Result T RoomFault) (p q : Parts) (was now : H) (before rest : DiskRest) (n : ℕ) → IsExact host p was before n [] → (IsTrue (host.tells Work) → Undisturbed r (KeepsSound host p was before q now rest)) → Undisturbed r (IsExact host q now rest n [])
-exact-if {T} {H} host (Ok v) p q was now before rest n x f = exact-then host p q was now before rest n x f
-exact-if {T} {H} host (Err TooFew) p q was now before rest n x f = exact-then host p q was now before rest n x f
-exact-if {T} {H} host (Err (OfDisk e)) p q was now before rest n x f = tt
 
 -- a step on the core alone, where each name that comes is used
 pub exact-core : {H : Type 0} (host : Ghosts H) (p q : Parts) (now : H) (rest : DiskRest) (n : ℕ) → IsExact host p now rest n [] → IsParts q → Stays (core_of p) (core_of q) → IsUncounted (core_of p) (core_of q) → IsExact host q now rest n []

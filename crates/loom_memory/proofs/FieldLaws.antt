@@ -33,12 +33,12 @@ use Rattle.loom_memory.specs.Memory.{loom_told, IsTaken, IsSilent, IsRefused, Is
 use Rattle.loom_memory.proofs.CacheLaws.{left-refl}
 use Rattle.loom_memory.proofs.AccessLaws.{damaged-is}
 
-pub told-bounds : {H : Type 0} (host : Ghosts H) (m : LoomMemory H) → (b : Bounds) × ((loom_told host m).bounds ≡ Some b) × (b.core ≡ m.ledger.core)
+pub told-bounds : {H : Type 0} (host : Ghosts H) (m : LoomMemory H host) → (b : Bounds) × ((loom_told host m).bounds ≡ Some b) × (b.core ≡ m.ledger.core)
 unfolding loom_told
-told-bounds {H} host m = (record { core = m.ledger.core; entries = m.ledger.entries; room = disk_room m.disk.rest; base = m.ledger.base; made = m.ledger.made; work_faults = host.faults m.disk.host.now Work; said_faults = host.faults m.disk.host.now Transcript }, refl, refl)
+told-bounds {H} host m = (record { core = m.ledger.core; entries = m.ledger.entries; room = disk_room m.pager.levels.disk.rest; base = m.ledger.base; made = m.ledger.made; work_faults = host.faults m.pager.levels.disk.host.now Work; said_faults = host.faults m.pager.levels.disk.host.now Transcript }, refl, refl)
 
 -- the heap is told exactly where the host tells Work
-pub told-tells : {H : Type 0} (host : Ghosts H) (m : LoomMemory H) → IsTrue (loom_told host m).tells → IsTrue (host.tells Work)
+pub told-tells : {H : Type 0} (host : Ghosts H) (m : LoomMemory H host) → IsTrue (loom_told host m).tells → IsTrue (host.tells Work)
 unfolding loom_told
 told-tells {H} host m told = told
 
@@ -87,9 +87,9 @@ fault-cause t w a (fault.Work count) r before now b d cause is bound bound' was 
 fault-cause t w a (fault.Full held room) r before now b d cause is bound bound' was is' = absurd cause
 fault-cause t w a (fault.Damaged place about) r before now b d cause is bound bound' was is' = subst (λ (x : MemFault). HasCause t w (Does a) x) (sym is) cause
 
-pub faults-told : {H : Type 0} (host : Ghosts H) (m : LoomMemory H) → (b : Bounds) × ((loom_told host m).bounds ≡ Some b) × (b.work_faults ≡ host.faults m.disk.host.now Work)
+pub faults-told : {H : Type 0} (host : Ghosts H) (m : LoomMemory H host) → (b : Bounds) × ((loom_told host m).bounds ≡ Some b) × (b.work_faults ≡ host.faults m.pager.levels.disk.host.now Work)
 unfolding loom_told
-faults-told {H} host m = (record { core = m.ledger.core; entries = m.ledger.entries; room = disk_room m.disk.rest; base = m.ledger.base; made = m.ledger.made; work_faults = host.faults m.disk.host.now Work; said_faults = host.faults m.disk.host.now Transcript }, refl, refl)
+faults-told {H} host m = (record { core = m.ledger.core; entries = m.ledger.entries; room = disk_room m.pager.levels.disk.rest; base = m.ledger.base; made = m.ledger.made; work_faults = host.faults m.pager.levels.disk.host.now Work; said_faults = host.faults m.pager.levels.disk.host.now Transcript }, refl, refl)
 
 pub read-only : {H : Type 0} (host : Ghosts H) (old new : H) → IsWorkRead host old new → IsWorkOnly host old new
 read-only {H} host old new read = record {

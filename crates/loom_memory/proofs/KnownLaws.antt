@@ -133,15 +133,15 @@ one-row t (Say k) need is = is
 one-row t (Swap k l) need is = inl is
 
 -- CoreFull with this need
-pub full-beside : {H : Type 0} (host : Ghosts H) (m : LoomMemory H) (u : Told) (n words : ℕ) (need : Need) (x : MemFault) → IsSound host m → IsReady (loom_told host m) → (core_of m.parts).find n ≡ None
-    → (IsTrue (host.tells Work) → words_at (loom_told host m).heap n ≡ words) → IsNeedBeside (core_of m.parts) m.pinned n words need → (Fits m.ledger.core m.ledger.entries need.words need.entries → ⊥)
+pub full-beside : {H : Type 0} (host : Ghosts H) (m : LoomMemory H host) (u : Told) (n words : ℕ) (need : Need) (x : MemFault) → IsSound host m → IsReady (loom_told host m) → (core_of m.pager.levels.parts).find n ≡ None
+    → (IsTrue (host.tells Work) → words_at (loom_told host m).heap n ≡ words) → IsNeedBeside (core_of m.pager.levels.parts) m.pager.pinned n words need → (Fits m.ledger.core m.ledger.entries need.words need.entries → ⊥)
     → u ≡ refused (loom_told host m) (CoreFull need) → x ≡ CoreFull need → (loom_told host m).refusals ≤ counted (loom_told host m).refusals → IsRefusedOf (loom_told host m) u n x
 unfolding loom_told
 full-beside {H} host m u n words need x sound ready away sized is unfit refuses same later = λ a row silent none.
     subst (λ (f : MemFault). IsRefused (loom_told host m) u a f) (sym same)
     (refused-quiet (loom_told host m) (loom_told host m) u a (CoreFull need) (quiet-same host m) refuses ready silent none later (
       subst (λ b. ForBounds b (λ b. Fits b.core b.entries need.words need.entries → ⊥)) (sym (ap (λ (z : Told). z.bounds) refuses)) unfit,
-      λ told. one-row (loom_told host m) a need (beside-told (host.tells Work) (core_of m.parts) (disk_of host m.disk.host.now m.disk.rest) m.ledger.next n words m.pinned need told sound.kept.parts.core sound.kept.pinned away (sized told) is ∙ sym (row-of-access (loom_told host m) a n row none)),
+      λ told. one-row (loom_told host m) a need (beside-told (host.tells Work) (core_of m.pager.levels.parts) (disk_of host m.pager.levels.disk.host.now m.pager.levels.disk.rest) m.ledger.next n words m.pager.pinned need told sound.kept.parts.core sound.kept.pinned away (sized told) is ∙ sym (row-of-access (loom_told host m) a n row none)),
     ))
 
 -- no entry is free, and nothing more can go: the row has no room
@@ -179,7 +179,7 @@ bare-then x y pins qins bare same pin = subst (λ (c : Core). IsBare qins.a qins
 
 -- ---- steps
 
-pub quiet-still : {H : Type 0} (host : Ghosts H) (m n : LoomMemory H) → loom_told host n ≡ loom_told host m → IsQuiet (loom_told host m) (loom_told host n)
+pub quiet-still : {H : Type 0} (host : Ghosts H) (m n : LoomMemory H host) → loom_told host n ≡ loom_told host m → IsQuiet (loom_told host m) (loom_told host n)
 quiet-still {H} host m n same = subst (λ (t : Told). IsQuiet (loom_told host m) t) (sym same) (quiet-same host m)
 
 pub refused-of : (t u v : Told) (n : ℕ) (f : MemFault) → IsQuiet t u → IsRefusedOf u v n f → IsRefusedOf t v n f

@@ -132,12 +132,12 @@ pub still-calm : (pins : Pinned) (c : Core) → IsCalm pins c c
 still-calm pins c = record { marks = Marks-same c c (Kept-refl c); here = λ h. h; bound = refl; same_outside = λ t. refl; live = λ t some. refl; pinned = λ t p among at. record { at = p; place = at; name = refl } }
 
 -- Work was read, and the core changed calmly or not at all
-pub calm-read : {H : Type 0} (host : Ghosts H) (m : LoomMemory H) (q : Parts) (new : H) (now : DiskRest) → IsSound host m → IsParts q → IsCalm m.pinned (core_of m.parts) (core_of q) → IsWorkRead host m.disk.host.now new → now ≡ m.disk.rest
-    → disk_of host new now ≡ disk_of host m.disk.host.now m.disk.rest → (IsTrue (host.tells Work) → held (core_of q) (disk_of host m.disk.host.now m.disk.rest) ≡ held (core_of m.parts) (disk_of host m.disk.host.now m.disk.rest))
-    → IsQuiet (told_of host m.disk.host.now m.disk.rest (core_of m.parts) m.regs m.pinned m.ledger) (told_of host new now (core_of q) m.regs m.pinned m.ledger)
+pub calm-read : {H : Type 0} (host : Ghosts H) (m : LoomMemory H host) (q : Parts) (new : H) (now : DiskRest) → IsSound host m → IsParts q → IsCalm m.pager.pinned (core_of m.pager.levels.parts) (core_of q) → IsWorkRead host m.pager.levels.disk.host.now new → now ≡ m.pager.levels.disk.rest
+    → disk_of host new now ≡ disk_of host m.pager.levels.disk.host.now m.pager.levels.disk.rest → (IsTrue (host.tells Work) → held (core_of q) (disk_of host m.pager.levels.disk.host.now m.pager.levels.disk.rest) ≡ held (core_of m.pager.levels.parts) (disk_of host m.pager.levels.disk.host.now m.pager.levels.disk.rest))
+    → IsQuiet (told_of host m.pager.levels.disk.host.now m.pager.levels.disk.rest (core_of m.pager.levels.parts) m.regs m.pager.pinned m.ledger) (told_of host new now (core_of q) m.regs m.pager.pinned m.ledger)
 calm-read {H} host m q new now sound parts calm read rest same keeps =
-    quiet-is host m.disk.host.now new m.disk.rest now (core_of m.parts) (core_of q) m.regs m.pinned m.ledger (kept-rooted m.parts m.regs m.pinned m.ledger sound.kept) parts.core sound.kept.cached calm
-    (read-only host m.disk.host.now new read) (ap disk_room rest)
+    quiet-is host m.pager.levels.disk.host.now new m.pager.levels.disk.rest now (core_of m.pager.levels.parts) (core_of q) m.regs m.pager.pinned m.ledger (kept-rooted m.pager.levels.parts m.regs m.pager.pinned m.ledger sound.kept) parts.core sound.kept.cached calm
+    (read-only host m.pager.levels.disk.host.now new read) (ap disk_room rest)
     (λ told. ap (λ (k : Disk). held (core_of q) k) same ∙ keeps told)
 
 -- ---- refusals after quiet steps
@@ -149,14 +149,14 @@ pub damaged-after : (t u w : Told) (a : Access) (place name : ℕ) (r : MemFault
 damaged-after t u w a place name r quiet is same ready silent none later untold =
     subst (λ (f : MemFault). IsRefused t w a f) (sym same) (refused-quiet t u w a (Damaged place name) quiet is ready silent none (later-back t u quiet later) untold)
 
-pub fault-after : {H : Type 0} (host : Ghosts H) (m : LoomMemory H) (n : Told) (c : Core) (new : H) (now : DiskRest) (a : Access) (f : DiskFault) (r x : MemFault) → IsQuiet (loom_told host m) (told_of host new now c m.regs m.pinned m.ledger) → n ≡ refused (told_of host new now c m.regs m.pinned m.ledger) r → x ≡ r → IsReady (loom_told host m) → IsSilent a → makes a ≡ 0
-    → m.ledger.refusals ≤ counted m.ledger.refusals → IsReadFault (host.tells Work) (host.faults m.disk.host.now Work) (host.faults new Work) f → IsRefusalOf f r → IsRefused (loom_told host m) n a x
+pub fault-after : {H : Type 0} (host : Ghosts H) (m : LoomMemory H host) (n : Told) (c : Core) (new : H) (now : DiskRest) (a : Access) (f : DiskFault) (r x : MemFault) → IsQuiet (loom_told host m) (told_of host new now c m.regs m.pager.pinned m.ledger) → n ≡ refused (told_of host new now c m.regs m.pager.pinned m.ledger) r → x ≡ r → IsReady (loom_told host m) → IsSilent a → makes a ≡ 0
+    → m.ledger.refusals ≤ counted m.ledger.refusals → IsReadFault (host.tells Work) (host.faults m.pager.levels.disk.host.now Work) (host.faults new Work) f → IsRefusalOf f r → IsRefused (loom_told host m) n a x
 unfolding loom_told
 fault-after {H} host m n c new now a f r x quiet is same ready silent none later cause why =
     subst (λ (y : MemFault). IsRefused (loom_told host m) n a y) (sym same)
-    (refused-quiet (loom_told host m) (told_of host new now c m.regs m.pinned m.ledger) n a r quiet is ready silent none later
-    (fault-cause (loom_told host m) n a f r (host.faults m.disk.host.now Work) (host.faults new Work)
-    (record { core = m.ledger.core; entries = m.ledger.entries; room = disk_room m.disk.rest; base = m.ledger.base; made = m.ledger.made; work_faults = host.faults m.disk.host.now Work; said_faults = host.faults m.disk.host.now Transcript })
+    (refused-quiet (loom_told host m) (told_of host new now c m.regs m.pager.pinned m.ledger) n a r quiet is ready silent none later
+    (fault-cause (loom_told host m) n a f r (host.faults m.pager.levels.disk.host.now Work) (host.faults new Work)
+    (record { core = m.ledger.core; entries = m.ledger.entries; room = disk_room m.pager.levels.disk.rest; base = m.ledger.base; made = m.ledger.made; work_faults = host.faults m.pager.levels.disk.host.now Work; said_faults = host.faults m.pager.levels.disk.host.now Transcript })
     (record { core = m.ledger.core; entries = m.ledger.entries; room = disk_room now; base = m.ledger.base; made = m.ledger.made; work_faults = host.faults new Work; said_faults = host.faults new Transcript })
     cause why refl (ap (λ (z : Told). z.bounds) is) refl refl))
 

@@ -38,16 +38,16 @@ lent-others told Work s n lent = absurd lent
 lent-others told Display s n lent = absurd lent
 lent-others told Transcript s n lent = absurd lent
 
-pub lent-told : {H : Type 0} (host : Ghosts H) (m : LoomMemory H) (new : H) (now : DiskRest) (r : Role) → IsLent r → now ≡ m.disk.rest → SameBut r (host.roles m.disk.host.now) (host.roles new) → SameBut r (host.faults m.disk.host.now) (host.faults new)
-    → told_of host new now (core_of m.parts) m.regs m.pinned m.ledger ≡ told_of host m.disk.host.now m.disk.rest (core_of m.parts) m.regs m.pinned m.ledger
+pub lent-told : {H : Type 0} (host : Ghosts H) (m : LoomMemory H host) (new : H) (now : DiskRest) (r : Role) → IsLent r → now ≡ m.pager.levels.disk.rest → SameBut r (host.roles m.pager.levels.disk.host.now) (host.roles new) → SameBut r (host.faults m.pager.levels.disk.host.now) (host.faults new)
+    → told_of host new now (core_of m.pager.levels.parts) m.regs m.pager.pinned m.ledger ≡ told_of host m.pager.levels.disk.host.now m.pager.levels.disk.rest (core_of m.pager.levels.parts) m.regs m.pager.pinned m.ledger
 lent-told {H} host m new now r lent same roles faults =
-    let disk = same-disk host m.disk.host.now new m.disk.rest now same (roles Work (work-away r lent)) in
-    let heap_ = ap (λ (d : Disk). heap_if (host.tells Work) (held (core_of m.parts) d) m.ledger.next) disk in
-    let put_ : (host.roles new Transcript).put ≡ (host.roles m.disk.host.now Transcript).put = ap (λ (s : RoleState). s.put) (roles Transcript (transcript-away r lent)) in
+    let disk = same-disk host m.pager.levels.disk.host.now new m.pager.levels.disk.rest now same (roles Work (work-away r lent)) in
+    let heap_ = ap (λ (d : Disk). heap_if (host.tells Work) (held (core_of m.pager.levels.parts) d) m.ledger.next) disk in
+    let put_ : (host.roles new Transcript).put ≡ (host.roles m.pager.levels.disk.host.now Transcript).put = ap (λ (s : RoleState). s.put) (roles Transcript (transcript-away r lent)) in
     let room_ = ap disk_room same in
     let work = faults Work (work-away r lent) in
     let said = faults Transcript (transcript-away r lent) in
-    λ i. record (told_of host new now (core_of m.parts) m.regs m.pinned m.ledger) {
+    λ i. record (told_of host new now (core_of m.pager.levels.parts) m.regs m.pager.pinned m.ledger) {
       heap = heap_ i;
       transcript = put_ i;
       bounds = Some (record { core = m.ledger.core; entries = m.ledger.entries; room = room_ i; base = m.ledger.base; made = m.ledger.made; work_faults = work i; said_faults = said i });
@@ -57,7 +57,7 @@ pub others-lent : {H : Type 0} (host : Ghosts H) (old new : H) (r : Role) → Sa
 others-lent {H} host old new r roles faults = λ k away. ap (λ (s : RoleState). others_of (host.tells Work) k s (host.faults new k)) (roles k away) ∙ ap (λ (n : ℕ). others_of (host.tells Work) k (host.roles old k) n) (faults k away)
 
 -- the count of a role is told, or outside
-pub faults-are : {H : Type 0} (host : Ghosts H) (m : LoomMemory H) (r : Role) → host.faults m.disk.host.now r ≡ faults_of host m r
+pub faults-are : {H : Type 0} (host : Ghosts H) (m : LoomMemory H host) (r : Role) → host.faults m.pager.levels.disk.host.now r ≡ faults_of host m r
 unfolding loom_told loom_outside
 faults-are {H} host m Work = refl
 faults-are {H} host m Transcript = refl

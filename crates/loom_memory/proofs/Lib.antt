@@ -34,6 +34,9 @@ pub mod TextLaws
 pub mod ResidentLaws
 pub mod LentLaws
 pub mod OwnLaws
+pub mod PagerLaws
+pub mod OverLaws
+pub mod WholeLaws
 pub mod MindLaws
 pub mod GentleLaws
 pub mod GlanceLaws

@@ -34,6 +34,8 @@ use Rattle.counted_core.specs.Dead.{outside_by}
 use Rattle.counted_core.proofs.DeadLaws.{bounded, used-counted}
 use Rattle.delta_counts.proofs.NumberLaws.{held-on_disk}
 use Rattle.leaf_lambda.specs.declared.parts.Parts.{Parts}
+use Rattle.leaf_lambda.specs.Whole.{IsWhole}
+use Rattle.loom_memory.proofs.OverLaws.{over_parts}
 use Rattle.leaf_lambda.specs.Parts.{core_of, spare_of}
 use Rattle.object_memory.specs.Told.{Told, is_root, has_slot}
 use Rattle.purger.specs.declared.room.Pinned.{Pinned}
@@ -121,12 +123,12 @@ root-word c regs pins n root is = go (any_below REGISTERS (λ r. is_ref n (meant
 -- ---- what the core names
 
 -- what some word of the core names is a root, or counted
-pub living : {H : Type 0} (host : Ghosts H) (n : LoomMemory H) (s k : ℕ) → IsKept n.parts n.regs n.pinned n.ledger → IsExact host n.parts n.disk.host.now n.disk.rest n.ledger.next [] → IsTrue (host.tells Work) → is_used ((core_of n.parts).entries s).state ≡ true → ((core_of n.parts).entries s).name ≡ k
-    → IsNamedIn (core_of n.parts) s → IsStillNamed (loom_told host n) k
+pub living : {H : Type 0} (host : Ghosts H) (n : LoomMemory H host) (s k : ℕ) → IsKept n.pager.levels.parts n.regs n.pager.pinned n.ledger → IsExact host n.pager.levels.parts n.pager.levels.disk.host.now n.pager.levels.disk.rest n.ledger.next [] → IsTrue (host.tells Work) → is_used ((core_of n.pager.levels.parts).entries s).state ≡ true → ((core_of n.pager.levels.parts).entries s).name ≡ k
+    → IsNamedIn (core_of n.pager.levels.parts) s → IsStillNamed (loom_told host n) k
 unfolding loom_told outside
 living host n s k kept exact told used name named = ⊎_elim (λ (known : is_known (c.entries s).name ≡ true). inl (subst (λ (q : ℕ). is_known q ≡ true) name known)) (λ (some : 1 ≤ (c.entries s).refs). inr (by_use some (uses c s) refl)) named where
   c : Core
-  c = core_of n.parts
+  c = core_of n.pager.levels.parts
 
   t : Told
   t = loom_told host n
@@ -137,8 +139,8 @@ living host n s k kept exact told used name named = ⊎_elim (λ (known : is_kno
   counted : 1 ≤ uses c s → 0 < count_of t.heap k
   counted some =
       let e = exact told in
-      let is : c ≡ e.0.core = core-at host n.parts n.disk.host.now n.disk.rest e.0 e.1 in
-      let heap : t.heap ≡ heap_of e.0 = levels-told host n.parts n.disk.host.now n.disk.rest e.0 n.ledger.next e.1 e.3 told in
+      let is : c ≡ e.0.core = core-at host n.pager.levels.parts n.pager.levels.disk.host.now n.pager.levels.disk.rest e.0 e.1 in
+      let heap : t.heap ≡ heap_of e.0 = levels-told host n.pager.levels.parts n.pager.levels.disk.host.now n.pager.levels.disk.rest e.0 n.ledger.next e.1 e.3 told in
       let there = used-counted e.0 s e.2.core e.2.heap (subst (λ (d : Core). 1 ≤ uses d s) is some) in
       let same : (e.0.core.entries s).name ≡ k = ap (λ (d : Core). (d.entries s).name) (sym is) ∙ name in
       subst (λ (h : Heap). 0 < count_of h k) (sym heap) (subst (λ (q : ℕ). 0 < count_of (heap_of e.0) q) same there)
@@ -149,7 +151,7 @@ living host n s k kept exact told used name named = ⊎_elim (λ (known : is_kno
   by_root : 1 ≤ outside c s → (b : Bool) → is_root t k ≡ b → (is_root t k ≡ true) ⊎ (0 < count_of t.heap k)
   by_root some true e = inl e
   by_root some false e =
-      let none : outside_by c (c.find k) ≡ 0 = free-told c n.regs n.pinned k (kept-rooted n.parts n.regs n.pinned n.ledger kept) kept.many e in
+      let none : outside_by c (c.find k) ≡ 0 = free-told c n.regs n.pager.pinned k (kept-rooted n.pager.levels.parts n.regs n.pager.pinned n.ledger kept) kept.many e in
       let here : outside c s ≡ 0 = ap (outside_by c) (sym found) ∙ none in
       absurd (let no_ : ⊥ = omega (arith, some, here) in no_)
 
@@ -164,18 +166,18 @@ and-false true = refl
 and-false false = refl
 
 -- a word went, and nothing else of the heap changed
-pub thin-swapped : {H : Type 0} (host : Ghosts H) (m n : LoomMemory H) (w old : ℕ) → IsSound host m → IsKept n.parts n.regs n.pinned n.ledger → IsExact host n.parts n.disk.host.now n.disk.rest n.ledger.next [] → (loom_told host n).heap ≡ (loom_told host m).heap
-    → IsSwap (core_of m.parts) (core_of n.parts) w old → (n.thinned ≡ true → m.thinned ≡ true) → (n.thinned ≡ true → is_short old ≡ true → IsNamedIn (core_of n.parts) old) → IsThin host n
+pub thin-swapped : {H : Type 0} (host : Ghosts H) (m n : LoomMemory H host) (w old : ℕ) → IsSound host m → IsKept n.pager.levels.parts n.regs n.pager.pinned n.ledger → IsExact host n.pager.levels.parts n.pager.levels.disk.host.now n.pager.levels.disk.rest n.ledger.next [] → (loom_told host n).heap ≡ (loom_told host m).heap
+    → IsSwap (core_of m.pager.levels.parts) (core_of n.pager.levels.parts) w old → (n.thinned ≡ true → m.thinned ≡ true) → (n.thinned ≡ true → is_short old ≡ true → IsNamedIn (core_of n.pager.levels.parts) old) → IsThin host n
 unfolding loom_told outside
 thin-swapped host m n w old sound kept exact heap swap was named = thin-is host _ (λ on told k has. ⊎_elim (λ known. inl known)
     (λ (rest : (is_root (loom_told host m) k ≡ true) ⊎ (0 < count_of (loom_told host m).heap k)).
     ⊎_elim (λ root. rooted on told k root) (λ (some : 0 < count_of (loom_told host m).heap k). inr (inr (subst (λ (h : Heap). 0 < count_of h k) (sym heap) some))) rest)
     (thin-none host m sound.thin (was on) told k (subst (λ (h : Heap). Has h k) heap has))) where
       x : Core
-      x = core_of m.parts
+      x = core_of m.pager.levels.parts
 
       y : Core
-      y = core_of n.parts
+      y = core_of n.pager.levels.parts
 
       out : (s : ℕ) → outside y s ≡ (y.entries s).refs - uses y s
       out s = refl
@@ -196,7 +198,7 @@ thin-swapped host m n w old sound kept exact heap swap was named = thin-is host 
 
       rooted : n.thinned ≡ true → IsTrue (host.tells Work) → (k : ℕ) → is_root (loom_told host m) k ≡ true → IsStillNamed (loom_told host n) k
       rooted on told k root =
-          let at = root-word x m.regs m.pinned k (kept-rooted m.parts m.regs m.pinned m.ledger sound.kept) root in
+          let at = root-word x m.regs m.pager.pinned k (kept-rooted m.pager.levels.parts m.regs m.pager.pinned m.ledger sound.kept) root in
           let used = outside-used x at.0 sound.kept.parts.core at.1.held in
           let live = swap.live at.0 used in
           living host n at.0 k kept exact told live.0 (live.1 ∙ at.1.name) (refs-of at.0 on at.1.short at.1.held)
@@ -222,15 +224,15 @@ field-counted h n i k o v w bound there field some = go (is_ref k v) refl where
       inl (omega (arith, all, none, some))
 
 -- what a disk and a core hold, where it is told
-told-heap : {H : Type 0} (host : Ghosts H) (m : LoomMemory H) → IsTrue (host.tells Work) → (loom_told host m).heap ≡ record { at = held (core_of m.parts) (disk_of host m.disk.host.now m.disk.rest); next = m.ledger.next }
+told-heap : {H : Type 0} (host : Ghosts H) (m : LoomMemory H host) → IsTrue (host.tells Work) → (loom_told host m).heap ≡ record { at = held (core_of m.pager.levels.parts) (disk_of host m.pager.levels.disk.host.now m.pager.levels.disk.rest); next = m.ledger.next }
 unfolding loom_told
-told-heap host m told = heap-told (host.tells Work) (held (core_of m.parts) (disk_of host m.disk.host.now m.disk.rest)) m.ledger.next (record { at = held (core_of m.parts) (disk_of host m.disk.host.now m.disk.rest); next = m.ledger.next }) told refl refl
+told-heap host m told = heap-told (host.tells Work) (held (core_of m.pager.levels.parts) (disk_of host m.pager.levels.disk.host.now m.pager.levels.disk.rest)) m.ledger.next (record { at = held (core_of m.pager.levels.parts) (disk_of host m.pager.levels.disk.host.now m.pager.levels.disk.rest); next = m.ledger.next }) told refl refl
 
-told-bounded : {H : Type 0} (host : Ghosts H) (m : LoomMemory H) → IsExact host m.parts m.disk.host.now m.disk.rest m.ledger.next [] → IsTrue (host.tells Work) → IsBounded (loom_told host m).heap
+told-bounded : {H : Type 0} (host : Ghosts H) (m : LoomMemory H host) → IsExact host m.pager.levels.parts m.pager.levels.disk.host.now m.pager.levels.disk.rest m.ledger.next [] → IsTrue (host.tells Work) → IsBounded (loom_told host m).heap
 unfolding loom_told
 told-bounded host m exact told =
     let e = exact told in
-    subst (λ (h : Heap). IsBounded h) (sym (levels-told host m.parts m.disk.host.now m.disk.rest e.0 m.ledger.next e.1 e.3 told)) (bounded (heap_of e.0) e.2.heap)
+    subst (λ (h : Heap). IsBounded h) (sym (levels-told host m.pager.levels.parts m.pager.levels.disk.host.now m.pager.levels.disk.rest e.0 m.ledger.next e.1 e.3 told)) (bounded (heap_of e.0) e.2.heap)
 
 -- a root stays one while registers and slots do
 root-same : (t u : Told) (k : ℕ) → u.regs ≡ t.regs → u.slots ≡ t.slots → is_root t k ≡ true → is_root u k ≡ true
@@ -238,14 +240,14 @@ root-same t u k regs slots root = subst (λ (f : ℕ → Value). any_below REGIS
     (subst (λ (g : ℕ → Option ℕ). any_below REGISTERS (λ r. is_ref k (t.regs r)) || has_slot g k ≡ true) (sym slots) root)
 
 -- an object was put in place of one
-record IsPutIn {H : Type 0} (host : Ghosts H) (m n : LoomMemory H) (o p : Object) (name : ℕ) : Type 0 where
+record IsPutIn {H : Type 0} (host : Ghosts H) (m n : LoomMemory H host) (o p : Object) (name : ℕ) : Type 0 where
   there : (loom_told host m).heap.at name ≡ Some o
   put : (loom_told host n).heap ≡ put_object (loom_told host m).heap name p
 
 -- the heap with a body in place of another
-put-in : {H : Type 0} (host : Ghosts H) (m n : LoomMemory H) (o p : Object) (name : ℕ) → n.ledger.next ≡ m.ledger.next → IsTrue (host.tells Work)
-    → held (core_of m.parts) (disk_of host m.disk.host.now m.disk.rest) name ≡ Some o
-    → held (core_of n.parts) (disk_of host n.disk.host.now n.disk.rest) ≡ (λ q. cond (eqb q name) (Some p) (held (core_of m.parts) (disk_of host m.disk.host.now m.disk.rest) q))
+put-in : {H : Type 0} (host : Ghosts H) (m n : LoomMemory H host) (o p : Object) (name : ℕ) → n.ledger.next ≡ m.ledger.next → IsTrue (host.tells Work)
+    → held (core_of m.pager.levels.parts) (disk_of host m.pager.levels.disk.host.now m.pager.levels.disk.rest) name ≡ Some o
+    → held (core_of n.pager.levels.parts) (disk_of host n.pager.levels.disk.host.now n.pager.levels.disk.rest) ≡ (λ q. cond (eqb q name) (Some p) (held (core_of m.pager.levels.parts) (disk_of host m.pager.levels.disk.host.now m.pager.levels.disk.rest) q))
     → IsPutIn host m n o p name
 put-in host m n o p name next told there put = record {
   there = ap (λ (h : Heap). h.at name) (told-heap host m told) ∙ there;
@@ -255,36 +257,36 @@ put-in host m n o p name next told there put = record {
 }
 
 -- fields stay as they were
-pub thin-rewritten : {H : Type 0} (host : Ghosts H) (m : LoomMemory H) (q : Parts) (s p : ℕ) (body : Body) → IsSound host m → (loom_told host (record m { parts = q })).regs ≡ (loom_told host m).regs → (loom_told host (record m { parts = q })).slots ≡ (loom_told host m).slots
-    → (IsTrue (host.tells Work) → IsRewritten (core_of m.parts) (core_of q) (disk_of host m.disk.host.now m.disk.rest) s p body) → IsThin host (record m { parts = q })
+pub thin-rewritten : {H : Type 0} (host : Ghosts H) (m : LoomMemory H host) (q : Parts) (whole : IsWhole q) (s p : ℕ) (body : Body) → IsSound host m → (loom_told host (over_parts m q whole)).regs ≡ (loom_told host m).regs → (loom_told host (over_parts m q whole)).slots ≡ (loom_told host m).slots
+    → (IsTrue (host.tells Work) → IsRewritten (core_of m.pager.levels.parts) (core_of q) (disk_of host m.pager.levels.disk.host.now m.pager.levels.disk.rest) s p body) → IsThin host (over_parts m q whole)
 unfolding loom_told
-thin-rewritten host m q s p body sound regs slots changed = thin-is host _ (λ on told k has.
-    let disk : Disk = disk_of host m.disk.host.now m.disk.rest in
-    let x = core_of m.parts in
+thin-rewritten host m q whole s p body sound regs slots changed = thin-is host _ (λ on told k has.
+    let disk : Disk = disk_of host m.pager.levels.disk.host.now m.pager.levels.disk.rest in
+    let x = core_of m.pager.levels.parts in
     let o : Object = object_at x disk (x.entries s) p in
     let c = changed told in
     let name = (x.entries s).name in
     let there = held-at x disk name s p (sound.kept.parts.core.found s (placed-used (x.entries s).state p c.place)) c.place in
-    let in_ = put-in host m (record m { parts = q }) o (record { class = o.class; body = body }) name refl told there c.stored in
+    let in_ = put-in host m (over_parts m q whole) o (record { class = o.class; body = body }) name refl told there c.stored in
     let had = put-had (loom_told host m).heap name k o (record { class = o.class; body = body }) in_.there (subst (λ (h : Heap). Has h k) in_.put has) in
     let count = ap (λ (h : Heap). count_of h k) in_.put ∙ count-same_fields (loom_told host m).heap name o body k (told-bounded host m sound.exact told) in_.there c.fields in
     ⊎_elim (λ known. inl known)
     (λ (rest : (is_root (loom_told host m) k ≡ true) ⊎ (0 < count_of (loom_told host m).heap k)).
-    ⊎_elim (λ root. inr (inl (root-same (loom_told host m) (loom_told host (record m { parts = q })) k regs slots root))) (λ (some : 0 < count_of (loom_told host m).heap k). inr (inr (omega (arith, some, count)))) rest)
+    ⊎_elim (λ root. inr (inl (root-same (loom_told host m) (loom_told host (over_parts m q whole)) k regs slots root))) (λ (some : 0 < count_of (loom_told host m).heap k). inr (inr (omega (arith, some, count)))) rest)
     (thin-none host m sound.thin on told k had))
 
 -- a field gets another value: the one before is named still, or it says no more that nothing is dead
-pub thin-exchanged : {H : Type 0} (host : Ghosts H) (m : LoomMemory H) (a b q : Parts) (thinned : Bool) (s p i old : ℕ) (v w : Value) → IsSound host m → IsKept q m.regs m.pinned m.ledger → IsExact host q m.disk.host.now m.disk.rest m.ledger.next []
-    → (loom_told host (record m { parts = q; thinned = thinned })).regs ≡ (loom_told host m).regs → (loom_told host (record m { parts = q; thinned = thinned })).slots ≡ (loom_told host m).slots
-    → IsCore (core_of a) → (IsTrue (host.tells Work) → held (core_of a) (disk_of host m.disk.host.now m.disk.rest) ≡ held (core_of m.parts) (disk_of host m.disk.host.now m.disk.rest))
-    → (IsTrue (host.tells Work) → IsExchange (core_of a) (core_of b) (disk_of host m.disk.host.now m.disk.rest) s p i v w)
-    → (IsTrue (host.tells Work) → held (core_of q) (disk_of host m.disk.host.now m.disk.rest) ≡ held (core_of b) (disk_of host m.disk.host.now m.disk.rest))
-    → v ≡ meant (core_of m.parts).entries [] 0 old → (is_short old ≡ true → (is_used ((core_of q).entries old).state ≡ true) × (((core_of q).entries old).name ≡ ((core_of m.parts).entries old).name))
-    → (thinned ≡ true → m.thinned ≡ true) → (thinned ≡ true → is_short old ≡ true → IsNamedIn (core_of q) old) → IsThin host (record m { parts = q; thinned = thinned })
+pub thin-exchanged : {H : Type 0} (host : Ghosts H) (m : LoomMemory H host) (a b q : Parts) (whole : IsWhole q) (thinned : Bool) (s p i old : ℕ) (v w : Value) → IsSound host m → IsKept q m.regs m.pager.pinned m.ledger → IsExact host q m.pager.levels.disk.host.now m.pager.levels.disk.rest m.ledger.next []
+    → (loom_told host (record (over_parts m q whole) { thinned = thinned })).regs ≡ (loom_told host m).regs → (loom_told host (record (over_parts m q whole) { thinned = thinned })).slots ≡ (loom_told host m).slots
+    → IsCore (core_of a) → (IsTrue (host.tells Work) → held (core_of a) (disk_of host m.pager.levels.disk.host.now m.pager.levels.disk.rest) ≡ held (core_of m.pager.levels.parts) (disk_of host m.pager.levels.disk.host.now m.pager.levels.disk.rest))
+    → (IsTrue (host.tells Work) → IsExchange (core_of a) (core_of b) (disk_of host m.pager.levels.disk.host.now m.pager.levels.disk.rest) s p i v w)
+    → (IsTrue (host.tells Work) → held (core_of q) (disk_of host m.pager.levels.disk.host.now m.pager.levels.disk.rest) ≡ held (core_of b) (disk_of host m.pager.levels.disk.host.now m.pager.levels.disk.rest))
+    → v ≡ meant (core_of m.pager.levels.parts).entries [] 0 old → (is_short old ≡ true → (is_used ((core_of q).entries old).state ≡ true) × (((core_of q).entries old).name ≡ ((core_of m.pager.levels.parts).entries old).name))
+    → (thinned ≡ true → m.thinned ≡ true) → (thinned ≡ true → is_short old ≡ true → IsNamedIn (core_of q) old) → IsThin host (record (over_parts m q whole) { thinned = thinned })
 unfolding loom_told
-thin-exchanged host m a b q thinned s p i old v w sound kept exact regs slots core before changed after value live was named = thin-is host _ (λ on told k has.
-    let n = record m { parts = q; thinned = thinned } in
-    let disk : Disk = disk_of host m.disk.host.now m.disk.rest in
+thin-exchanged host m a b q whole thinned s p i old v w sound kept exact regs slots core before changed after value live was named = thin-is host _ (λ on told k has.
+    let n = record (over_parts m q whole) { thinned = thinned } in
+    let disk : Disk = disk_of host m.pager.levels.disk.host.now m.pager.levels.disk.rest in
     let x = core_of a in
     let o : Object = object_at x disk (x.entries s) p in
     let c = changed told in
@@ -299,7 +301,7 @@ thin-exchanged host m a b q thinned s p i old v w sound kept exact regs slots co
     (λ (some : 0 < count_of (loom_told host m).heap k).
     ⊎_elim (λ (still : 0 < count_of (put_object (loom_told host m).heap name now) k). inr (inr (subst (λ (h : Heap). 0 < count_of h k) (sym in_.put) still)))
     (λ (ref : is_ref k v ≡ true).
-    let of = word-names (core_of m.parts) old k (sym value ∙ is-ref k v ref) in
+    let of = word-names (core_of m.pager.levels.parts) old k (sym value ∙ is-ref k v ref) in
     let alive = live of.0 in
     living host n old k kept exact told alive.0 (alive.1 ∙ of.1) (named on of.0))
     (field-counted (loom_told host m).heap name i k o v w (told-bounded host m sound.exact told) in_.there c.field some)) rest)
@@ -307,27 +309,27 @@ thin-exchanged host m a b q thinned s p i old v w sound kept exact regs slots co
 
 -- ---- as many are held as are counted
 
-pub held-counted : {H : Type 0} (host : Ghosts H) (m : LoomMemory H) → IsSound host m → IsTrue (host.tells Work) → object_count (loom_told host m).heap ≡ m.ledger.held
+pub held-counted : {H : Type 0} (host : Ghosts H) (m : LoomMemory H host) → IsSound host m → IsTrue (host.tells Work) → object_count (loom_told host m).heap ≡ m.ledger.held
 unfolding loom_told
 held-counted host m sound told =
     let e = sound.exact told in
-    let is : core_of m.parts ≡ e.0.core = core-at host m.parts m.disk.host.now m.disk.rest e.0 e.1 in
-    ap object_count (levels-told host m.parts m.disk.host.now m.disk.rest e.0 m.ledger.next e.1 e.3 told) ∙ held-on_disk m.disk.rest (work_of host m.disk.host.now) e.0 [] e.1.disk e.2
-    ∙ ap (λ (c : Core). disk_held m.disk.rest + fresh_of c) (sym is) ∙ sound.over.counted told
+    let is : core_of m.pager.levels.parts ≡ e.0.core = core-at host m.pager.levels.parts m.pager.levels.disk.host.now m.pager.levels.disk.rest e.0 e.1 in
+    ap object_count (levels-told host m.pager.levels.parts m.pager.levels.disk.host.now m.pager.levels.disk.rest e.0 m.ledger.next e.1 e.3 told) ∙ held-on_disk m.pager.levels.disk.rest (work_of host m.pager.levels.disk.host.now) e.0 [] e.1.disk e.2
+    ∙ ap (λ (c : Core). disk_held m.pager.levels.disk.rest + fresh_of c) (sym is) ∙ sound.over.counted told
 
 -- ---- where nothing was dead
 
 pub never-ok : {E : Type 0} (f : E) → ◌≡◌ {A = Result (Unit {0}) E} (Err f) (Ok tt) → ⊥
 never-ok f e = cc
 
-pub lasted-anew : {H : Type 0} (m u v : LoomMemory H) → u ≡ m → v ≡ record u { ledger = record u.ledger { base = Some u.ledger.held; made = 0 } } → HasLasted m v (Ok tt)
-lasted-anew {H} m u v same anew = record { ok = refl; same = anew ∙ ap (λ (z : LoomMemory H). record z { ledger = record z.ledger { base = Some z.ledger.held; made = 0 } }) same }
+pub lasted-anew : {H : Type 0} {host : Ghosts H} (m u v : LoomMemory H host) → u ≡ m → v ≡ record u { ledger = record u.ledger { base = Some u.ledger.held; made = 0 } } → HasLasted m v (Ok tt)
+lasted-anew {H} {host} m u v same anew = record { ok = refl; same = anew ∙ ap (λ (z : LoomMemory H host). record z { ledger = record z.ledger { base = Some z.ledger.held; made = 0 } }) same }
 
-pub lasted-last : {H : Type 0} (r : Result (Unit {0}) MemFault) (m u v : LoomMemory H) → 128 ≤ spare_of m.parts → u ≡ record m { ledger = record m.ledger { base = Some m.ledger.held; made = 0 } } → OnOk r (128 ≤ spare_of u.parts → v ≡ u) → IfErr r (λ f. 128 ≤ spare_of u.parts → ⊥) → HasLasted m v r
-lasted-last {H} (Ok x) m u v enough same stays sure =
-    let there : 128 ≤ spare_of u.parts = subst (λ (z : LoomMemory H). 128 ≤ spare_of z.parts) (sym same) enough in
+pub lasted-last : {H : Type 0} {host : Ghosts H} (r : Result (Unit {0}) MemFault) (m u v : LoomMemory H host) → 128 ≤ spare_of m.pager.levels.parts → u ≡ record m { ledger = record m.ledger { base = Some m.ledger.held; made = 0 } } → OnOk r (128 ≤ spare_of u.pager.levels.parts → v ≡ u) → IfErr r (λ f. 128 ≤ spare_of u.pager.levels.parts → ⊥) → HasLasted m v r
+lasted-last {H} {host} (Ok x) m u v enough same stays sure =
+    let there : 128 ≤ spare_of u.pager.levels.parts = subst (λ (z : LoomMemory H host). 128 ≤ spare_of z.pager.levels.parts) (sym same) enough in
     record { ok = refl; same = stays there ∙ same }
-lasted-last {H} (Err f) m u v enough same stays sure = absurd (sure (subst (λ (z : LoomMemory H). 128 ≤ spare_of z.parts) (sym same) enough))
+lasted-last {H} {host} (Err f) m u v enough same stays sure = absurd (sure (subst (λ (z : LoomMemory H host). 128 ≤ spare_of z.pager.levels.parts) (sym same) enough))
 
 pub ok-of : {A : Type 0} (r : Result (Unit {0}) MemFault) → A → OnOk r A
 ok-of (Ok x) a = a

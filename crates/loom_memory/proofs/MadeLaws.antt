@@ -34,11 +34,11 @@ use Rattle.loom_memory.proofs.MindLaws.{remains-residents}
 use Rattle.loom_memory.proofs.MakingLaws.{set_here}
 use Rattle.loom_memory.proofs.SettleLaws.{held-residents}
 
-pub entry-resident : {H : Type 0} (m : LoomMemory H) (s name : ℕ) → IsCore (core_of m.parts) → IsEntryOf (core_of m.parts) s name → IsTrue (is_some (place_of ((core_of m.parts).entries s).state)) → IsTrue (is_resident m name)
-entry-resident {H} m s name core entry body = ap (λ (k : ℕ). is_resident m k) (sym entry.named) ∙ resident-is m s core entry.used ∙ body
+pub entry-resident : {H : Type 0} {host : Ghosts H} (m : LoomMemory H host) (s name : ℕ) → IsCore (core_of m.pager.levels.parts) → IsEntryOf (core_of m.pager.levels.parts) s name → IsTrue (is_some (place_of ((core_of m.pager.levels.parts).entries s).state)) → IsTrue (is_resident m name)
+entry-resident {H} {host} m s name core entry body = ap (λ (k : ℕ). is_resident m k) (sym entry.named) ∙ resident-is m s core entry.used ∙ body
 
 -- its name comes into a register
-pub put-resident : {H : Type 0} (host : Ghosts H) (m n : LoomMemory H) (to name : ℕ) → IsCore (core_of m.parts) → IsCore (core_of n.parts) → IsSteady host m n
+pub put-resident : {H : Type 0} (host : Ghosts H) (m n : LoomMemory H host) (to name : ℕ) → IsCore (core_of m.pager.levels.parts) → IsCore (core_of n.pager.levels.parts) → IsSteady host m n
     → loom_told host n ≡ record (loom_told host m) { regs = set_register (loom_told host m).regs to (Ref name) } → IsTrue (is_resident m name) → IsTrue (is_resident n (name_at ((loom_told host n).regs to)))
 put-resident {H} host m n to name core now steady told there =
     let is : (loom_told host n).regs to ≡ Ref name = ap (λ (z : Told). z.regs to) told ∙ set_here (loom_told host m).regs to (Ref name) in
@@ -49,31 +49,31 @@ fetched-then {T} (Ok x) a b d same is = is ∙ same
 fetched-then {T} (Err f) a b d same is = tt
 
 -- nothing went before an object was made
-pub made-early : {T H : Type 0} (r : Result T MemFault) (host : Ghosts H) (m u v : LoomMemory H) (to class : ℕ) (what : Making) (words : ℕ) → words ≡ 4 + body_words (body_made what) → (m.ledger.made < 8 → HasRoom m.parts words 27 → u ≡ m) → OnOk r (HasMade (loom_told host u) (loom_told host v) to class what)
-    → IsTrue (host.tells Work) → IfBounds (loom_told host m).bounds (λ b. b.made < 8 → HasRoom m.parts (4 + body_words (body_made what)) 27 → OnOk r ((loom_told host v).heap ≡ heap_after (loom_told host m).heap (loom_told host m).regs (Make to class what)))
+pub made-early : {T H : Type 0} (r : Result T MemFault) (host : Ghosts H) (m u v : LoomMemory H host) (to class : ℕ) (what : Making) (words : ℕ) → words ≡ 4 + body_words (body_made what) → (m.ledger.made < 8 → HasRoom m.pager.levels.parts words 27 → u ≡ m) → OnOk r (HasMade (loom_told host u) (loom_told host v) to class what)
+    → IsTrue (host.tells Work) → IfBounds (loom_told host m).bounds (λ b. b.made < 8 → HasRoom m.pager.levels.parts (4 + body_words (body_made what)) 27 → OnOk r ((loom_told host v).heap ≡ heap_after (loom_told host m).heap (loom_told host m).regs (Make to class what)))
 unfolding loom_told
-made-early {T} {H} (Ok x) host m u v to class what words size same made = λ told low has. subst (λ (z : LoomMemory H). (loom_told host v).heap ≡ heap_after (loom_told host z).heap (loom_told host z).regs (Make to class what)) (same low (subst (λ (k : ℕ). HasRoom m.parts k 27) (sym size) has)) (made.heap told)
+made-early {T} {H} (Ok x) host m u v to class what words size same made = λ told low has. subst (λ (z : LoomMemory H host). (loom_told host v).heap ≡ heap_after (loom_told host z).heap (loom_told host z).regs (Make to class what)) (same low (subst (λ (k : ℕ). HasRoom m.pager.levels.parts k 27) (sym size) has)) (made.heap told)
 made-early {T} {H} (Err f) host m u v to class what words size same made = λ told low has. tt
 
 -- ---- what a making left in the core
 
 -- it was made, and room was made before
-pub made-rest : {T H : Type 0} {P : Type 0} (r : Result T MemFault) (m u v : LoomMemory H) → (P → IsResting m u) → OnOk r (IsResting u v) → OnOk r (P → IsResting m v)
-made-rest {T} {H} {P} (Ok x) m u v first last = λ p. rest-trans m u v (first p) last
-made-rest {T} {H} {P} (Err f) m u v first last = tt
+pub made-rest : {T H : Type 0} {host : Ghosts H} {P : Type 0} (r : Result T MemFault) (m u v : LoomMemory H host) → (P → IsResting m u) → OnOk r (IsResting u v) → OnOk r (P → IsResting m v)
+made-rest {T} {H} {host} {P} (Ok x) m u v first last = λ p. rest-trans m u v (first p) last
+made-rest {T} {H} {host} {P} (Err f) m u v first last = tt
 
 -- the next name has no object in the core
-next-away : {H : Type 0} (host : Ghosts H) (m : LoomMemory H) → IsSound host m → IsTrue (host.tells Work) → is_resident m m.ledger.next ≡ false
+next-away : {H : Type 0} (host : Ghosts H) (m : LoomMemory H host) → IsSound host m → IsTrue (host.tells Work) → is_resident m m.ledger.next ≡ false
 unfolding is_resident
-next-away {H} host m sound told = ap (λ (o : Option ℕ). has_body (core_of m.parts) o) (next-absent host m.parts m.disk.host.now m.disk.rest m.ledger.next sound.exact told).0
+next-away {H} host m sound told = ap (λ (o : Option ℕ). has_body (core_of m.pager.levels.parts) o) (next-absent host m.pager.levels.parts m.pager.levels.disk.host.now m.pager.levels.disk.rest m.ledger.next sound.exact told).0
 
 -- what the heap has after a making, but for the new object, it had before
 made-had : (h : Heap) (regs : ℕ → Value) (to class : ℕ) (what : Making) (k : ℕ) → k ≢ h.next → Has (heap_after h regs (Make to class what)) k → Has h k
 made-had h regs to class what k away has = sym (ap (λ (b : Bool). is_some (cond b (Some (record { class = name_at (regs class); body = body_made what })) (h.at k))) (ne_eqb k h.next away)) ∙ has
 
 -- each object in the core that is still there stays
-made-kept : {H : Type 0} (host : Ghosts H) (m u v : LoomMemory H) (to class : ℕ) (what : Making) → IsSound host m → IsSound host u → IsCore (core_of v.parts) → u.ledger.next ≡ m.ledger.next → HasMade (loom_told host u) (loom_told host v) to class what
-    → (IsTrue (host.tells Work) → KeepsHeld (core_of m.parts) (core_of u.parts) (loom_told host u).heap) → Remains (core_of u.parts) (core_of v.parts) → IsTrue (host.tells Work) → (k : ℕ) → IsTrue (is_resident m k) → Has (loom_told host v).heap k → IsTrue (is_resident v k)
+made-kept : {H : Type 0} (host : Ghosts H) (m u v : LoomMemory H host) (to class : ℕ) (what : Making) → IsSound host m → IsSound host u → IsCore (core_of v.pager.levels.parts) → u.ledger.next ≡ m.ledger.next → HasMade (loom_told host u) (loom_told host v) to class what
+    → (IsTrue (host.tells Work) → KeepsHeld (core_of m.pager.levels.parts) (core_of u.pager.levels.parts) (loom_told host u).heap) → Remains (core_of u.pager.levels.parts) (core_of v.pager.levels.parts) → IsTrue (host.tells Work) → (k : ℕ) → IsTrue (is_resident m k) → Has (loom_told host v).heap k → IsTrue (is_resident v k)
 unfolding loom_told
 made-kept {H} host m u v to class what sound there core next made bodies remains told k here has =
     let away : k ≢ (loom_told host u).heap.next = (λ e.
@@ -83,23 +83,23 @@ made-kept {H} host m u v to class what sound there core next made bodies remains
     let before = made-had (loom_told host u).heap (loom_told host u).regs to class what k away (subst (λ (h : Heap). Has h k) (made.heap told) has) in
     remains-residents u v there.kept.parts.core core remains k (held-residents m u (loom_told host u).heap sound.kept.parts.core there.kept.parts.core (bodies told) k here before)
 
-pub made-sparing : {T H : Type 0} (r : Result T MemFault) (host : Ghosts H) (m u v : LoomMemory H) (to class : ℕ) (what : Making) (words : ℕ) → words ≡ 4 + body_words (body_made what) → IsSound host m → IsSound host u → KeepsSound r (IsSound host v)
-    → (m.ledger.held < disk_room m.disk.rest → HasRoom m.parts words 27 → u ≡ m) → (m.ledger.made < 8 → HasRoom m.parts words 27 → u ≡ m) → u.ledger.next ≡ m.ledger.next → ((k : ℕ) → HasRoom m.parts k 27 → HasRoom u.parts k 27) → (IsTrue (host.tells Work) → KeepsHeld (core_of m.parts) (core_of u.parts) (loom_told host u).heap)
-    → OnOk r (HasMade (loom_told host u) (loom_told host v) to class what) → OnOk r (HasRoom u.parts words 27 → IsResting u v) → OnOk r (HasRoom u.parts words 27 → KeepsCache host u v) → OnOk r (IsSparingMaking host m v what)
+pub made-sparing : {T H : Type 0} (r : Result T MemFault) (host : Ghosts H) (m u v : LoomMemory H host) (to class : ℕ) (what : Making) (words : ℕ) → words ≡ 4 + body_words (body_made what) → IsSound host m → IsSound host u → KeepsSound r (IsSound host v)
+    → (m.ledger.held < disk_room m.pager.levels.disk.rest → HasRoom m.pager.levels.parts words 27 → u ≡ m) → (m.ledger.made < 8 → HasRoom m.pager.levels.parts words 27 → u ≡ m) → u.ledger.next ≡ m.ledger.next → ((k : ℕ) → HasRoom m.pager.levels.parts k 27 → HasRoom u.pager.levels.parts k 27) → (IsTrue (host.tells Work) → KeepsHeld (core_of m.pager.levels.parts) (core_of u.pager.levels.parts) (loom_told host u).heap)
+    → OnOk r (HasMade (loom_told host u) (loom_told host v) to class what) → OnOk r (HasRoom u.pager.levels.parts words 27 → IsResting u v) → OnOk r (HasRoom u.pager.levels.parts words 27 → KeepsCache host u v) → OnOk r (IsSparingMaking host m v what)
 made-sparing {T} {H} (Ok x) host m u v to class what words size sound there now roomy early next room bodies made rests keeps = record {
   stays = λ space. remains-residents m v sound.kept.parts.core now.kept.parts.core (rest space).remains;
   idle = λ space. (rest space).idle;
   cached = λ space. each (λ z. KeepsCache host z v) keeps space;
-  kept = λ told has. made-kept host m u v to class what sound there now.kept.parts.core next made bodies (rests (subst (λ (k : ℕ). HasRoom u.parts k 27) (sym size) (room (4 + body_words (body_made what)) has))).remains told;
+  kept = λ told has. made-kept host m u v to class what sound there now.kept.parts.core next made bodies (rests (subst (λ (k : ℕ). HasRoom u.pager.levels.parts k 27) (sym size) (room (4 + body_words (body_made what)) has))).remains told;
 }
   where
-    from : (P : LoomMemory H → Type 0) → (HasRoom u.parts words 27 → P u) → u ≡ m → HasRoom m.parts words 27 → P m
-    from P go same has = subst P same (go (subst (λ (z : LoomMemory H). HasRoom z.parts words 27) (sym same) has))
+    from : (P : LoomMemory H host → Type 0) → (HasRoom u.pager.levels.parts words 27 → P u) → u ≡ m → HasRoom m.pager.levels.parts words 27 → P m
+    from P go same has = subst P same (go (subst (λ (z : LoomMemory H host). HasRoom z.pager.levels.parts words 27) (sym same) has))
 
-    each : (P : LoomMemory H → Type 0) → (HasRoom u.parts words 27 → P u) → HasSpaceFor m what → P m
+    each : (P : LoomMemory H host → Type 0) → (HasRoom u.pager.levels.parts words 27 → P u) → HasSpaceFor m what → P m
     each P go space =
-        let has = subst (λ (k : ℕ). HasRoom m.parts k 27) (sym size) space.1 in
-        ⊎_elim (λ (h : m.ledger.held < disk_room m.disk.rest). from P go (roomy h has) has) (λ (h : m.ledger.made < 8). from P go (early h has) has) space.0
+        let has = subst (λ (k : ℕ). HasRoom m.pager.levels.parts k 27) (sym size) space.1 in
+        ⊎_elim (λ (h : m.ledger.held < disk_room m.pager.levels.disk.rest). from P go (roomy h has) has) (λ (h : m.ledger.made < 8). from P go (early h has) has) space.0
 
     rest : HasSpaceFor m what → IsResting m v
     rest space = each (λ z. IsResting z v) rests space
@@ -147,6 +147,6 @@ core-map NamesSpent P Q go p = tt
 core-map (Said count) P Q go p = tt
 core-map Memory P Q go p = tt
 
-pub asked-last : {T H : Type 0} (r : Result T MemFault) (host : Ghosts H) (m v : LoomMemory H) → (IsTrue (host.tells Work) → (loom_told host m).heap.next < LAST_NAME) → IfErr r (λ f. OnCoreFull f (v.ledger.held < disk_room v.disk.rest)) → IfErr r (λ f. OnCoreFull f (IsAskedLast host m v))
+pub asked-last : {T H : Type 0} (r : Result T MemFault) (host : Ghosts H) (m v : LoomMemory H host) → (IsTrue (host.tells Work) → (loom_told host m).heap.next < LAST_NAME) → IfErr r (λ f. OnCoreFull f (v.ledger.held < disk_room v.pager.levels.disk.rest)) → IfErr r (λ f. OnCoreFull f (IsAskedLast host m v))
 asked-last {T} {H} (Ok x) host m v low full = tt
-asked-last {T} {H} (Err f) host m v low full = core-map f (v.ledger.held < disk_room v.disk.rest) (IsAskedLast host m v) (λ room. record { name = low; room = room }) full
+asked-last {T} {H} (Err f) host m v low full = core-map f (v.ledger.held < disk_room v.pager.levels.disk.rest) (IsAskedLast host m v) (λ room. record { name = low; room = room }) full

@@ -285,6 +285,11 @@ pub made-now : (r : Result (Unit {0}) MemFault) (u v : Told) (to class : ℕ) (w
 made-now (Ok x) u v to class what made ready = made-ready u v to class what made ready
 made-now (Err f) u v to class what made ready = tt
 
+-- the register has the name of what was made
+pub made-ref : (r : Result (Unit {0}) MemFault) (u v : Told) (to class : ℕ) (what : Making) → OnOk r (HasMade u v to class what) → OnOk r (IsRef (v.regs to))
+made-ref (Ok x) u v to class what made = made-name u v to class what made
+made-ref (Err f) u v to class what made = tt
+
 -- a refusal for want of room in the core, for a making of so many words
 pub full-as : (t u : Told) (to class : ℕ) (what : Making) (words : ℕ) (f : MemFault) → IsFullMaking t u words f → words ≡ 4 + body_words (body_made what) → IsRefusedAs t u to class what f
 full-as t u to class what words f full size = λ low. full to class what size low

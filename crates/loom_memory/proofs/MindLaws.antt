@@ -19,10 +19,7 @@ use Rattle.object_memory.specs.Told.{Cache, Told}
 use Rattle.object_memory.specs.declared.fault.MemFault.{MemFault}
 use Rattle.object_memory.specs.Contract.{IsEmptied, KeepsSound, with_mark}
 use Rattle.method_cache.specs.Found.{found}
-use Rattle.purger.specs.declared.room.RoomFault.{RoomFault}
-use Rattle.purger.specs.declared.room.RoomFault.TheVariants.{Short, Disk}
 use Rattle.purger.specs.Marks.{IsOut, IsUnmarking, KeepsMarks, LeavesMarks, HasLostMarked, MindsMarks}
-use Rattle.purger.specs.Purge.{Undisturbed}
 use Rattle.purger.proofs.MindLaws.{NoneCame, others-came, unmarked-came}
 use Rattle.purger.proofs.MarkLaws.{marked-at}
 use Rattle.loom_memory.specs.declared.ledger.Ledger.{Ledger}
@@ -36,61 +33,61 @@ use Rattle.loom_memory.proofs.CacheLaws.{cache-same, emptied-is}
 
 -- ---- objects in the core
 
-pub remains-residents : {H : Type 0} (m n : LoomMemory H) → IsCore (core_of m.parts) → IsCore (core_of n.parts) → Remains (core_of m.parts) (core_of n.parts) → (k : ℕ) → IsTrue (is_resident m k) → IsTrue (is_resident n k)
+pub remains-residents : {H : Type 0} {host : Ghosts H} (m n : LoomMemory H host) → IsCore (core_of m.pager.levels.parts) → IsCore (core_of n.pager.levels.parts) → Remains (core_of m.pager.levels.parts) (core_of n.pager.levels.parts) → (k : ℕ) → IsTrue (is_resident m k) → IsTrue (is_resident n k)
 unfolding is_resident
-remains-residents {H} m n core now remains k here = go ((core_of m.parts).find k) refl here
+remains-residents {H} {host} m n core now remains k here = go ((core_of m.pager.levels.parts).find k) refl here
   where
-    go : (x : Option ℕ) → (core_of m.parts).find k ≡ x → has_body (core_of m.parts) x ≡ true → has_body (core_of n.parts) ((core_of n.parts).find k) ≡ true
+    go : (x : Option ℕ) → (core_of m.pager.levels.parts).find k ≡ x → has_body (core_of m.pager.levels.parts) x ≡ true → has_body (core_of n.pager.levels.parts) ((core_of n.pager.levels.parts).find k) ≡ true
     go None e here = absurd (cc)
-    go (Some s) e here = at (place_of ((core_of m.parts).entries s).state) refl here
+    go (Some s) e here = at (place_of ((core_of m.pager.levels.parts).entries s).state) refl here
       where
-        at : (x : Option ℕ) → place_of ((core_of m.parts).entries s).state ≡ x → is_some x ≡ true → has_body (core_of n.parts) ((core_of n.parts).find k) ≡ true
+        at : (x : Option ℕ) → place_of ((core_of m.pager.levels.parts).entries s).state ≡ x → is_some x ≡ true → has_body (core_of n.pager.levels.parts) ((core_of n.pager.levels.parts).find k) ≡ true
         at None f here = absurd (cc)
         at (Some p) f here =
             let still = remains s p f in
-            let found : (core_of n.parts).find k ≡ Some s = ap (core_of n.parts).find (sym (still.name ∙ core.named k s e)) ∙ now.found s (placed-used ((core_of n.parts).entries s).state still.at still.place) in
-            ap (λ (x : Option ℕ). has_body (core_of n.parts) x) found ∙ ap (λ (x : Option ℕ). is_some x) still.place
+            let found : (core_of n.pager.levels.parts).find k ≡ Some s = ap (core_of n.pager.levels.parts).find (sym (still.name ∙ core.named k s e)) ∙ now.found s (placed-used ((core_of n.pager.levels.parts).entries s).state still.at still.place) in
+            ap (λ (x : Option ℕ). has_body (core_of n.pager.levels.parts) x) found ∙ ap (λ (x : Option ℕ). is_some x) still.place
 
 -- each marked object is there
-pub marks-here : {H : Type 0} (host : Ghosts H) (m : LoomMemory H) → IsSound host m → (k : ℕ) → (loom_told host m).cache.marks k ≡ true → IsTrue (is_resident m k)
+pub marks-here : {H : Type 0} (host : Ghosts H) (m : LoomMemory H host) → IsSound host m → (k : ℕ) → (loom_told host m).cache.marks k ≡ true → IsTrue (is_resident m k)
 unfolding loom_told is_resident
-marks-here {H} host m sound k on = go ((core_of m.parts).find k) refl on
+marks-here {H} host m sound k on = go ((core_of m.pager.levels.parts).find k) refl on
   where
-    go : (o : Option ℕ) → (core_of m.parts).find k ≡ o → marked_by (core_of m.parts).entries o ≡ true → has_body (core_of m.parts) ((core_of m.parts).find k) ≡ true
+    go : (o : Option ℕ) → (core_of m.pager.levels.parts).find k ≡ o → marked_by (core_of m.pager.levels.parts).entries o ≡ true → has_body (core_of m.pager.levels.parts) ((core_of m.pager.levels.parts).find k) ≡ true
     go None e marked = absurd (cc)
     go (Some s) e marked =
         let body = sound.kept.here s (sound.kept.parts.core.used k s e) marked in
-        ap (λ (o : Option ℕ). has_body (core_of m.parts) o) e ∙ ap (λ (o : Option ℕ). is_some o) body.1
+        ap (λ (o : Option ℕ). has_body (core_of m.pager.levels.parts) o) e ∙ ap (λ (o : Option ℕ). is_some o) body.1
 
-pub away-out : {H : Type 0} (m : LoomMemory H) (k : ℕ) → IsCore (core_of m.parts) → is_resident m k ≡ false → IsOut (core_of m.parts) k
+pub away-out : {H : Type 0} {host : Ghosts H} (m : LoomMemory H host) (k : ℕ) → IsCore (core_of m.pager.levels.parts) → is_resident m k ≡ false → IsOut (core_of m.pager.levels.parts) k
 unfolding is_resident
-away-out {H} m k core away s p at e =
-    let there : (core_of m.parts).find k ≡ Some s = ap (core_of m.parts).find (sym e) ∙ core.found s (placed-used ((core_of m.parts).entries s).state p at) in
-    let both : false ≡ true = sym away ∙ ap (λ (o : Option ℕ). has_body (core_of m.parts) o) there ∙ ap (λ (o : Option ℕ). is_some o) at in
+away-out {H} {host} m k core away s p at e =
+    let there : (core_of m.pager.levels.parts).find k ≡ Some s = ap (core_of m.pager.levels.parts).find (sym e) ∙ core.found s (placed-used ((core_of m.pager.levels.parts).entries s).state p at) in
+    let both : false ≡ true = sym away ∙ ap (λ (o : Option ℕ). has_body (core_of m.pager.levels.parts) o) there ∙ ap (λ (o : Option ℕ). is_some o) at in
     cc
 
-pub out-away : {H : Type 0} (m : LoomMemory H) (k : ℕ) → IsCore (core_of m.parts) → IsOut (core_of m.parts) k → is_resident m k ≡ false
+pub out-away : {H : Type 0} {host : Ghosts H} (m : LoomMemory H host) (k : ℕ) → IsCore (core_of m.pager.levels.parts) → IsOut (core_of m.pager.levels.parts) k → is_resident m k ≡ false
 unfolding is_resident
-out-away {H} m k core out = go ((core_of m.parts).find k) refl
+out-away {H} {host} m k core out = go ((core_of m.pager.levels.parts).find k) refl
   where
-    go : (o : Option ℕ) → (core_of m.parts).find k ≡ o → has_body (core_of m.parts) o ≡ false
+    go : (o : Option ℕ) → (core_of m.pager.levels.parts).find k ≡ o → has_body (core_of m.pager.levels.parts) o ≡ false
     go None e = refl
-    go (Some s) e = at (place_of ((core_of m.parts).entries s).state) refl
+    go (Some s) e = at (place_of ((core_of m.pager.levels.parts).entries s).state) refl
       where
-        at : (o : Option ℕ) → place_of ((core_of m.parts).entries s).state ≡ o → is_some o ≡ false
+        at : (o : Option ℕ) → place_of ((core_of m.pager.levels.parts).entries s).state ≡ o → is_some o ≡ false
         at None f = refl
         at (Some p) f = absurd (out s p f (core.named k s e))
 
 -- a body of its name
-pub body-of : {H A : Type 0} (m : LoomMemory H) (k : ℕ) → IsCore (core_of m.parts) → IsTrue (is_resident m k) → ((s p : ℕ) → place_of ((core_of m.parts).entries s).state ≡ Some p → ((core_of m.parts).entries s).name ≡ k → A) → A
+pub body-of : {H A : Type 0} {host : Ghosts H} (m : LoomMemory H host) (k : ℕ) → IsCore (core_of m.pager.levels.parts) → IsTrue (is_resident m k) → ((s p : ℕ) → place_of ((core_of m.pager.levels.parts).entries s).state ≡ Some p → ((core_of m.pager.levels.parts).entries s).name ≡ k → A) → A
 unfolding is_resident
-body-of {H} {A} m k core here f = go ((core_of m.parts).find k) refl here
+body-of {H} {A} {host} m k core here f = go ((core_of m.pager.levels.parts).find k) refl here
   where
-    go : (o : Option ℕ) → (core_of m.parts).find k ≡ o → has_body (core_of m.parts) o ≡ true → A
+    go : (o : Option ℕ) → (core_of m.pager.levels.parts).find k ≡ o → has_body (core_of m.pager.levels.parts) o ≡ true → A
     go None e on = absurd (cc)
-    go (Some s) e on = at (place_of ((core_of m.parts).entries s).state) refl on
+    go (Some s) e on = at (place_of ((core_of m.pager.levels.parts).entries s).state) refl on
       where
-        at : (o : Option ℕ) → place_of ((core_of m.parts).entries s).state ≡ o → is_some o ≡ true → A
+        at : (o : Option ℕ) → place_of ((core_of m.pager.levels.parts).entries s).state ≡ o → is_some o ≡ true → A
         at None f0 on = absurd (cc)
         at (Some p) f0 on = f s p f0 (core.named k s e)
 
@@ -100,11 +97,11 @@ came-remains x y came = λ s p at. let b = came s p at in record { at = b.at; pl
 -- ---- one step
 
 -- marks stay, and nothing was put
-pub marks-keep : {H : Type 0} (host : Ghosts H) (m n : LoomMemory H) → IsSound host m → IsCore (core_of n.parts) → KeepsMarks (core_of m.parts) (core_of n.parts) → n.ledger ≡ m.ledger → KeepsCache host m n
+pub marks-keep : {H : Type 0} (host : Ghosts H) (m n : LoomMemory H host) → IsSound host m → IsCore (core_of n.pager.levels.parts) → KeepsMarks (core_of m.pager.levels.parts) (core_of n.pager.levels.parts) → n.ledger ≡ m.ledger → KeepsCache host m n
 unfolding loom_told
 marks-keep {H} host m n sound core keeps ledger =
-    ap (λ (k : Ledger). cache_of (core_of n.parts) (found k.rows) k.mark k.begun) ledger
-    ∙ cache-same (core_of m.parts) (core_of n.parts) (found m.ledger.rows) m.ledger.mark m.ledger.begun sound.kept.parts.core core keeps sound.kept.cached
+    ap (λ (k : Ledger). cache_of (core_of n.pager.levels.parts) (found k.rows) k.mark k.begun) ledger
+    ∙ cache-same (core_of m.pager.levels.parts) (core_of n.pager.levels.parts) (found m.ledger.rows) m.ledger.mark m.ledger.begun sound.kept.parts.core core keeps sound.kept.cached
 
 -- a cache that is as an emptied one
 pub emptied-same : (marked : Option ℕ) (a b c : Cache) → c ≡ b → (e : IsEmptied marked a b) → IsEmptied marked a c
@@ -126,14 +123,14 @@ emptied-for marked a b c n same e was = record {
   was = was;
 }
 
-pub minds-refl : {H : Type 0} (host : Ghosts H) (m : LoomMemory H) (about : ℕ → Type 0) → IsSound host m → MindsCache host None m m about
+pub minds-refl : {H : Type 0} (host : Ghosts H) (m : LoomMemory H host) (about : ℕ → Type 0) → IsSound host m → MindsCache host None m m about
 minds-refl {H} host m about sound = record {
   here = marks-here host m sound;
   others = λ k off on. absurd (let both : false ≡ true = sym off ∙ on in cc);
   cache = inl refl;
 }
 
-pub minds-wide : {H : Type 0} (host : Ghosts H) (marked : Option ℕ) (m u : LoomMemory H) (a c : ℕ → Type 0) → ((k : ℕ) → a k → c k) → MindsCache host marked m u a → MindsCache host marked m u c
+pub minds-wide : {H : Type 0} (host : Ghosts H) (marked : Option ℕ) (m u : LoomMemory H host) (a c : ℕ → Type 0) → ((k : ℕ) → a k → c k) → MindsCache host marked m u a → MindsCache host marked m u c
 minds-wide {H} host marked m u a c wide x = record {
   here = x.here;
   others = λ k off on. wide k (x.others k off on);
@@ -142,45 +139,45 @@ minds-wide {H} host marked m u a c wide x = record {
 }
 
 -- objects left, and none came; rows are those that were there
-pub minds-left : {H : Type 0} (host : Ghosts H) (m n : LoomMemory H) → IsSound host m → IsSound host n → n.ledger.rows ≡ m.ledger.rows → n.ledger.mark ≡ m.ledger.mark → n.ledger.begun ≡ m.ledger.begun → MindsMarks (core_of m.parts) (core_of n.parts) → MindsCache host None m n (λ k. ⊥)
+pub minds-left : {H : Type 0} (host : Ghosts H) (m n : LoomMemory H host) → IsSound host m → IsSound host n → n.ledger.rows ≡ m.ledger.rows → n.ledger.mark ≡ m.ledger.mark → n.ledger.begun ≡ m.ledger.begun → MindsMarks (core_of m.pager.levels.parts) (core_of n.pager.levels.parts) → MindsCache host None m n (λ k. ⊥)
 unfolding loom_told emptied-for
 minds-left {H} host m n sound now rows mark begun x = record {
   here = marks-here host n now;
   others = λ k off on. absurd (let none = out-away n k now.kept.parts.core (x.out k (away-out m k sound.kept.parts.core off)) in let both : false ≡ true = sym none ∙ on in cc);
-  cache = ⊎_elim (λ (keeps : KeepsMarks (core_of m.parts) (core_of n.parts)). inl (same ∙ cache-same (core_of m.parts) (core_of n.parts) (found m.ledger.rows) m.ledger.mark m.ledger.begun sound.kept.parts.core now.kept.parts.core keeps sound.kept.cached))
-      (λ (lost : HasLostMarked (core_of m.parts) (core_of n.parts)). inr (record {
-        emptied = emptied-for None (loom_told host m).cache (cache_of (core_of n.parts) (found m.ledger.rows) m.ledger.mark m.ledger.begun) (loom_told host n).cache lost.name same
-            (emptied-is (core_of m.parts) (core_of n.parts) (found m.ledger.rows) m.ledger.mark m.ledger.begun lost.name sound.kept.parts.core now.kept.parts.core sound.kept.cached lost.marked lost.none) lost.marked;
+  cache = ⊎_elim (λ (keeps : KeepsMarks (core_of m.pager.levels.parts) (core_of n.pager.levels.parts)). inl (same ∙ cache-same (core_of m.pager.levels.parts) (core_of n.pager.levels.parts) (found m.ledger.rows) m.ledger.mark m.ledger.begun sound.kept.parts.core now.kept.parts.core keeps sound.kept.cached))
+      (λ (lost : HasLostMarked (core_of m.pager.levels.parts) (core_of n.pager.levels.parts)). inr (record {
+        emptied = emptied-for None (loom_told host m).cache (cache_of (core_of n.pager.levels.parts) (found m.ledger.rows) m.ledger.mark m.ledger.begun) (loom_told host n).cache lost.name same
+            (emptied-is (core_of m.pager.levels.parts) (core_of n.pager.levels.parts) (found m.ledger.rows) m.ledger.mark m.ledger.begun lost.name sound.kept.parts.core now.kept.parts.core sound.kept.cached lost.marked lost.none) lost.marked;
         gone = inl (out-away n lost.name now.kept.parts.core lost.out);
       })) x.marks;
 }
   where
-    same : cache_of (core_of n.parts) (found n.ledger.rows) n.ledger.mark n.ledger.begun ≡ cache_of (core_of n.parts) (found m.ledger.rows) m.ledger.mark m.ledger.begun
-    same = ap (λ r. cache_of (core_of n.parts) (found r) n.ledger.mark n.ledger.begun) rows ∙ ap (λ (k : ℕ). cache_of (core_of n.parts) (found m.ledger.rows) k n.ledger.begun) mark ∙ ap (λ (b : Bool). cache_of (core_of n.parts) (found m.ledger.rows) m.ledger.mark b) begun
+    same : cache_of (core_of n.pager.levels.parts) (found n.ledger.rows) n.ledger.mark n.ledger.begun ≡ cache_of (core_of n.pager.levels.parts) (found m.ledger.rows) m.ledger.mark m.ledger.begun
+    same = ap (λ r. cache_of (core_of n.pager.levels.parts) (found r) n.ledger.mark n.ledger.begun) rows ∙ ap (λ (k : ℕ). cache_of (core_of n.pager.levels.parts) (found m.ledger.rows) k n.ledger.begun) mark ∙ ap (λ (b : Bool). cache_of (core_of n.pager.levels.parts) (found m.ledger.rows) m.ledger.mark b) begun
 
-pub minds-core : {H : Type 0} (host : Ghosts H) (m n : LoomMemory H) → IsSound host m → IsSound host n → n.ledger ≡ m.ledger → MindsMarks (core_of m.parts) (core_of n.parts) → MindsCache host None m n (λ k. ⊥)
+pub minds-core : {H : Type 0} (host : Ghosts H) (m n : LoomMemory H host) → IsSound host m → IsSound host n → n.ledger ≡ m.ledger → MindsMarks (core_of m.pager.levels.parts) (core_of n.pager.levels.parts) → MindsCache host None m n (λ k. ⊥)
 minds-core {H} host m n sound now ledger x = minds-left host m n sound now (ap (λ (k : Ledger). k.rows) ledger) (ap (λ (k : Ledger). k.mark) ledger) (ap (λ (k : Ledger). k.begun) ledger) x
 
 -- marks went for an object that is stored into
-pub minds-unmark : {H : Type 0} (host : Ghosts H) (m n : LoomMemory H) (s : ℕ) → IsSound host m → IsSound host n → n.ledger ≡ m.ledger → is_used ((core_of m.parts).entries s).state ≡ true → IsUnmarking (core_of m.parts) (core_of n.parts) → LeavesMarks (core_of m.parts) (core_of n.parts) → (((core_of m.parts).entries s).flags.marked ≡ false → n ≡ m)
-    → MindsCache host None m n (λ k. k ≡ ((core_of m.parts).entries s).name)
+pub minds-unmark : {H : Type 0} (host : Ghosts H) (m n : LoomMemory H host) (s : ℕ) → IsSound host m → IsSound host n → n.ledger ≡ m.ledger → is_used ((core_of m.pager.levels.parts).entries s).state ≡ true → IsUnmarking (core_of m.pager.levels.parts) (core_of n.pager.levels.parts) → LeavesMarks (core_of m.pager.levels.parts) (core_of n.pager.levels.parts) → (((core_of m.pager.levels.parts).entries s).flags.marked ≡ false → n ≡ m)
+    → MindsCache host None m n (λ k. k ≡ ((core_of m.pager.levels.parts).entries s).name)
 unfolding loom_told emptied-for
 minds-unmark {H} host m n s sound now ledger used step left idle = record {
   here = marks-here host n now;
-  others = λ k off on. absurd (let was = remains-residents n m now.kept.parts.core sound.kept.parts.core (came-remains (core_of m.parts) (core_of n.parts) (unmarked-came (core_of m.parts) (core_of n.parts) step)) k on in let both : false ≡ true = sym off ∙ was in cc);
-  cache = go ((core_of m.parts).entries s).flags.marked refl;
+  others = λ k off on. absurd (let was = remains-residents n m now.kept.parts.core sound.kept.parts.core (came-remains (core_of m.pager.levels.parts) (core_of n.pager.levels.parts) (unmarked-came (core_of m.pager.levels.parts) (core_of n.pager.levels.parts) step)) k on in let both : false ≡ true = sym off ∙ was in cc);
+  cache = go ((core_of m.pager.levels.parts).entries s).flags.marked refl;
 }
   where
-    go : (b : Bool) → ((core_of m.parts).entries s).flags.marked ≡ b → KeepsCache host m n ⊎ IsSwept host None m n (λ k. k ≡ ((core_of m.parts).entries s).name)
-    go false e = inl (ap (λ (z : LoomMemory H). (loom_told host z).cache) (idle e))
-    go true e = ⊎_elim (λ (keeps : KeepsMarks (core_of m.parts) (core_of n.parts)). inl (marks-keep host m n sound now.kept.parts.core keeps ledger)) (λ gone. inr (record {
-      emptied = emptied-for None (loom_told host m).cache (cache_of (core_of n.parts) (found m.ledger.rows) m.ledger.mark m.ledger.begun) (loom_told host n).cache ((core_of m.parts).entries s).name (ap (λ (k : Ledger). cache_of (core_of n.parts) (found k.rows) k.mark k.begun) ledger)
-          (emptied-is (core_of m.parts) (core_of n.parts) (found m.ledger.rows) m.ledger.mark m.ledger.begun ((core_of m.parts).entries s).name sound.kept.parts.core now.kept.parts.core sound.kept.cached (marked-at (core_of m.parts) s sound.kept.parts.core used ∙ e) gone.1) (marked-at (core_of m.parts) s sound.kept.parts.core used ∙ e);
+    go : (b : Bool) → ((core_of m.pager.levels.parts).entries s).flags.marked ≡ b → KeepsCache host m n ⊎ IsSwept host None m n (λ k. k ≡ ((core_of m.pager.levels.parts).entries s).name)
+    go false e = inl (ap (λ (z : LoomMemory H host). (loom_told host z).cache) (idle e))
+    go true e = ⊎_elim (λ (keeps : KeepsMarks (core_of m.pager.levels.parts) (core_of n.pager.levels.parts)). inl (marks-keep host m n sound now.kept.parts.core keeps ledger)) (λ gone. inr (record {
+      emptied = emptied-for None (loom_told host m).cache (cache_of (core_of n.pager.levels.parts) (found m.ledger.rows) m.ledger.mark m.ledger.begun) (loom_told host n).cache ((core_of m.pager.levels.parts).entries s).name (ap (λ (k : Ledger). cache_of (core_of n.pager.levels.parts) (found k.rows) k.mark k.begun) ledger)
+          (emptied-is (core_of m.pager.levels.parts) (core_of n.pager.levels.parts) (found m.ledger.rows) m.ledger.mark m.ledger.begun ((core_of m.pager.levels.parts).entries s).name sound.kept.parts.core now.kept.parts.core sound.kept.cached (marked-at (core_of m.pager.levels.parts) s sound.kept.parts.core used ∙ e) gone.1) (marked-at (core_of m.pager.levels.parts) s sound.kept.parts.core used ∙ e);
       gone = inr refl;
     })) left
 
 -- none came or left, and marks and rows stay
-pub minds-still : {H : Type 0} (host : Ghosts H) (u v : LoomMemory H) (about : ℕ → Type 0) → ((k : ℕ) → (loom_told host u).cache.marks k ≡ true → IsTrue (is_resident u k)) → IsCore (core_of u.parts) → IsCore (core_of v.parts) → Remains (core_of u.parts) (core_of v.parts) → Remains (core_of v.parts) (core_of u.parts) → KeepsCache host u v
+pub minds-still : {H : Type 0} (host : Ghosts H) (u v : LoomMemory H host) (about : ℕ → Type 0) → ((k : ℕ) → (loom_told host u).cache.marks k ≡ true → IsTrue (is_resident u k)) → IsCore (core_of u.pager.levels.parts) → IsCore (core_of v.pager.levels.parts) → Remains (core_of u.pager.levels.parts) (core_of v.pager.levels.parts) → Remains (core_of v.pager.levels.parts) (core_of u.pager.levels.parts) → KeepsCache host u v
     → MindsCache host None u v about
 minds-still {H} host u v about here core now stays none same = record {
   here = λ k on. remains-residents u v core now stays k (here k (ap (λ (z : Cache). z.marks k) (sym same) ∙ on));
@@ -189,21 +186,21 @@ minds-still {H} host u v about here core now stays none same = record {
 }
 
 -- the object of one entry came
-pub minds-come : {H : Type 0} (host : Ghosts H) (u v : LoomMemory H) (s : ℕ) → IsSound host u → IsSound host v → IsWithin s (core_of u.parts) (core_of v.parts) → ((core_of v.parts).entries s).name ≡ ((core_of u.parts).entries s).name → KeepsCache host u v
-    → MindsCache host None u v (λ k. k ≡ ((core_of u.parts).entries s).name)
+pub minds-come : {H : Type 0} (host : Ghosts H) (u v : LoomMemory H host) (s : ℕ) → IsSound host u → IsSound host v → IsWithin s (core_of u.pager.levels.parts) (core_of v.pager.levels.parts) → ((core_of v.pager.levels.parts).entries s).name ≡ ((core_of u.pager.levels.parts).entries s).name → KeepsCache host u v
+    → MindsCache host None u v (λ k. k ≡ ((core_of u.pager.levels.parts).entries s).name)
 minds-come {H} host u v s sound now within name same = record {
   here = marks-here host v now;
   others = λ k off on. came k (away-out u k sound.kept.parts.core off) on;
   cache = inl same;
 }
   where
-    came : (k : ℕ) → IsOut (core_of u.parts) k → IsTrue (is_resident v k) → k ≡ ((core_of u.parts).entries s).name
-    came k out on = body-of v k now.kept.parts.core on (λ t p at is. ⊎_elim (λ (h : t ≡ s). sym is ∙ ap (λ (q : ℕ). ((core_of v.parts).entries q).name) h ∙ name)
-        (λ (h : t ≢ s). absurd (let b = others-came (core_of u.parts) (core_of v.parts) s t p within h at in out t b.at b.place (sym b.name ∙ is))) (cases_eq t s))
+    came : (k : ℕ) → IsOut (core_of u.pager.levels.parts) k → IsTrue (is_resident v k) → k ≡ ((core_of u.pager.levels.parts).entries s).name
+    came k out on = body-of v k now.kept.parts.core on (λ t p at is. ⊎_elim (λ (h : t ≡ s). sym is ∙ ap (λ (q : ℕ). ((core_of v.pager.levels.parts).entries q).name) h ∙ name)
+        (λ (h : t ≢ s). absurd (let b = others-came (core_of u.pager.levels.parts) (core_of v.pager.levels.parts) s t p within h at in out t b.at b.place (sym b.name ∙ is))) (cases_eq t s))
 
 -- ---- steps after each other
 
-pub minds-then : {H : Type 0} (host : Ghosts H) (m u v : LoomMemory H) (a b c : ℕ → Type 0) → ((k : ℕ) → a k → c k) → ((k : ℕ) → b k → c k) → MindsCache host None m u a → MindsCache host None u v b → MindsCache host None m v c
+pub minds-then : {H : Type 0} (host : Ghosts H) (m u v : LoomMemory H host) (a b c : ℕ → Type 0) → ((k : ℕ) → a k → c k) → ((k : ℕ) → b k → c k) → MindsCache host None m u a → MindsCache host None u v b → MindsCache host None m v c
 unfolding emptied-same
 minds-then {H} host m u v a b c first last x y = record {
   here = y.here;
@@ -240,15 +237,15 @@ minds-then {H} host m u v a b c first last x y = record {
           gone = ⊎_elim (λ (off : is_resident v later.emptied.taken ≡ false). inl off) (λ (is : b later.emptied.taken). inr (last later.emptied.taken is)) later.gone;
         })) y.cache
 
-pub minds-step : {H : Type 0} (host : Ghosts H) (m u v : LoomMemory H) (about : ℕ → Type 0) → MindsCache host None m u about → IsCore (core_of u.parts) → IsCore (core_of v.parts) → Remains (core_of u.parts) (core_of v.parts) → Remains (core_of v.parts) (core_of u.parts) → KeepsCache host u v → MindsCache host None m v about
+pub minds-step : {H : Type 0} (host : Ghosts H) (m u v : LoomMemory H host) (about : ℕ → Type 0) → MindsCache host None m u about → IsCore (core_of u.pager.levels.parts) → IsCore (core_of v.pager.levels.parts) → Remains (core_of u.pager.levels.parts) (core_of v.pager.levels.parts) → Remains (core_of v.pager.levels.parts) (core_of u.pager.levels.parts) → KeepsCache host u v → MindsCache host None m v about
 minds-step {H} host m u v about x core now stays none same = minds-then host m u v about about about (λ k is. is) (λ k is. is) x (minds-still host u v about x.here core now stays none same)
 
 -- the same parts
-pub resident-same : {H : Type 0} (u v : LoomMemory H) (k : ℕ) → v.parts ≡ u.parts → is_resident v k ≡ is_resident u k
+pub resident-same : {H : Type 0} {host : Ghosts H} (u v : LoomMemory H host) (k : ℕ) → v.pager.levels.parts ≡ u.pager.levels.parts → is_resident v k ≡ is_resident u k
 unfolding is_resident
-resident-same {H} u v k same = ap (λ (p : Parts). has_body (core_of p) ((core_of p).find k)) same
+resident-same {H} {host} u v k same = ap (λ (p : Parts). has_body (core_of p) ((core_of p).find k)) same
 
-pub minds-parts : {H : Type 0} (host : Ghosts H) (m u v : LoomMemory H) (about : ℕ → Type 0) → MindsCache host None m u about → v.parts ≡ u.parts → KeepsCache host u v → MindsCache host None m v about
+pub minds-parts : {H : Type 0} (host : Ghosts H) (m u v : LoomMemory H host) (about : ℕ → Type 0) → MindsCache host None m u about → v.pager.levels.parts ≡ u.pager.levels.parts → KeepsCache host u v → MindsCache host None m v about
 unfolding emptied-same
 minds-parts {H} host m u v about x parts same = record {
   here = λ k on. resident-same u v k parts ∙ x.here k (ap (λ (z : Cache). z.marks k) (sym same) ∙ on);
@@ -260,11 +257,6 @@ minds-parts {H} host m u v about x parts same = record {
 }
 
 -- ---- by the answer of a call that makes room
-
-pub minds-room : {T H : Type 0} (r : Result T RoomFault) (host : Ghosts H) (m n : LoomMemory H) → IsSound host m → Undisturbed r (IsSound host n) → n.ledger ≡ m.ledger → Undisturbed r (MindsMarks (core_of m.parts) (core_of n.parts)) → Undisturbed r (MindsCache host None m n (λ k. ⊥))
-minds-room {T} {H} (Ok v) host m n sound now ledger x = minds-core host m n sound now ledger x
-minds-room {T} {H} (Err Short) host m n sound now ledger x = minds-core host m n sound now ledger x
-minds-room {T} {H} (Err (Disk f)) host m n sound now ledger x = tt
 
 -- ---- an object that is brought in
 
@@ -278,23 +270,23 @@ stored-came x y s within place name t p at = ⊎_elim
     })
     (λ (h : t ≢ s). others-came x y s t p within h at) (cases_eq t s)
 
-pub minds-brought : {T H : Type 0} (r : Result T MemFault) (host : Ghosts H) (m u n : LoomMemory H) (name own : ℕ) → IsSound host m → u.parts ≡ m.parts → KeepsCache host m u → own ≡ name → fetched u ≡ fetched m → OnOk r (fetched n ≡ counted (fetched u)) → OnOk r (MindsCache host None u n (λ k. k ≡ own)) → OnOk r (MindsCache host None m n (IsBrought m n name))
+pub minds-brought : {T H : Type 0} (r : Result T MemFault) (host : Ghosts H) (m u n : LoomMemory H host) (name own : ℕ) → IsSound host m → u.pager.levels.parts ≡ m.pager.levels.parts → KeepsCache host m u → own ≡ name → fetched u ≡ fetched m → OnOk r (fetched n ≡ counted (fetched u)) → OnOk r (MindsCache host None u n (λ k. k ≡ own)) → OnOk r (MindsCache host None m n (IsBrought m n name))
 minds-brought {T} {H} (Ok v) host m u n name own sound parts same is before after x =
     minds-then host m u n (λ k. ⊥) (λ k. k ≡ own) (IsBrought m n name) (λ k no. absurd no) (λ k e. (e ∙ is, after ∙ ap counted before)) (minds-parts host m m u (λ k. ⊥) (minds-refl host m (λ k. ⊥) sound) parts same) x
 minds-brought {T} {H} (Err f) host m u n name own sound parts same is before after x = tt
 
 -- ---- a name that comes into a register
 
-pub minds-steady : {H : Type 0} (host : Ghosts H) (m n : LoomMemory H) (about : ℕ → Type 0) → IsSound host m → IsCore (core_of n.parts) → IsSteady host m n → MindsCache host None m n about
+pub minds-steady : {H : Type 0} (host : Ghosts H) (m n : LoomMemory H host) (about : ℕ → Type 0) → IsSound host m → IsCore (core_of n.pager.levels.parts) → IsSteady host m n → MindsCache host None m n about
 minds-steady {H} host m n about sound now steady = minds-still host m n about (marks-here host m sound) sound.kept.parts.core now steady.gentle.remains steady.none steady.gentle.cache
 
-pub steady-then : {T H : Type 0} (r : Result T MemFault) (host : Ghosts H) (m u n : LoomMemory H) (about : ℕ → Type 0) → IsSound host m → IsCore (core_of u.parts) → IsSteady host m u → OnOk r (MindsCache host None u n about) → OnOk r (MindsCache host None m n about)
+pub steady-then : {T H : Type 0} (r : Result T MemFault) (host : Ghosts H) (m u n : LoomMemory H host) (about : ℕ → Type 0) → IsSound host m → IsCore (core_of u.pager.levels.parts) → IsSteady host m u → OnOk r (MindsCache host None u n about) → OnOk r (MindsCache host None m n about)
 steady-then {T} {H} (Ok v) host m u n about sound now steady x = minds-then host m u n about about about (λ k is. is) (λ k is. is) (minds-steady host m u about sound now steady) x
 steady-then {T} {H} (Err f) host m u n about sound now steady x = tt
 
 -- ---- a mark
 
-pub minds-mark : {H : Type 0} (host : Ghosts H) (m u v : LoomMemory H) (n : ℕ) → MindsCache host None m u (IsBrought m u n) → IsCore (core_of u.parts) → IsCore (core_of v.parts) → Remains (core_of u.parts) (core_of v.parts) → Remains (core_of v.parts) (core_of u.parts) → fetched v ≡ fetched u → IsTrue (is_resident u n)
+pub minds-mark : {H : Type 0} (host : Ghosts H) (m u v : LoomMemory H host) (n : ℕ) → MindsCache host None m u (IsBrought m u n) → IsCore (core_of u.pager.levels.parts) → IsCore (core_of v.pager.levels.parts) → Remains (core_of u.pager.levels.parts) (core_of v.pager.levels.parts) → Remains (core_of v.pager.levels.parts) (core_of u.pager.levels.parts) → fetched v ≡ fetched u → IsTrue (is_resident u n)
     → (loom_told host v).cache ≡ with_mark (loom_told host u).cache (Some n) → MindsCache host (Some n) m v (IsBrought m v n)
 minds-mark {H} host m u v n x core now stays none count there marked = record {
   here = λ k on. remains-residents u v core now stays k (among k (ap (λ (z : Cache). z.marks k) (sym marked) ∙ on));
@@ -331,51 +323,51 @@ minds-mark {H} host m u v n x core now stays none count there marked = record {
 
 -- ---- a store
 
-pub minds-stored : {T H : Type 0} (r : Result T MemFault) (host : Ghosts H) (m u v : LoomMemory H) (about : ℕ → Type 0) → MindsCache host None m u about → IsCore (core_of u.parts) → KeepsSound r (IsSound host v) → OnOk r (IsResting u v) → OnOk r (Remains (core_of v.parts) (core_of u.parts)) → OnOk r (KeepsCache host u v) → OnOk r (MindsCache host None m v about)
+pub minds-stored : {T H : Type 0} (r : Result T MemFault) (host : Ghosts H) (m u v : LoomMemory H host) (about : ℕ → Type 0) → MindsCache host None m u about → IsCore (core_of u.pager.levels.parts) → KeepsSound r (IsSound host v) → OnOk r (IsResting u v) → OnOk r (Remains (core_of v.pager.levels.parts) (core_of u.pager.levels.parts)) → OnOk r (KeepsCache host u v) → OnOk r (MindsCache host None m v about)
 minds-stored {T} {H} (Ok x) host m u v about was core now rest none same = minds-step host m u v about was core now.kept.parts.core rest.remains none same
 minds-stored {T} {H} (Err f) host m u v about was core now rest none same = tt
 
-pub minds-found : {T H : Type 0} (r : Result T MemFault) (host : Ghosts H) (m u v : LoomMemory H) (about : ℕ → Type 0) → MindsCache host None m u about → IsCore (core_of u.parts) → KeepsSound r (IsSound host v) → OnOk r (IsGlance host u v) → OnOk r (Remains (core_of v.parts) (core_of u.parts)) → OnOk r (KeepsCache host u v) → OnOk r (MindsCache host None m v about)
+pub minds-found : {T H : Type 0} (r : Result T MemFault) (host : Ghosts H) (m u v : LoomMemory H host) (about : ℕ → Type 0) → MindsCache host None m u about → IsCore (core_of u.pager.levels.parts) → KeepsSound r (IsSound host v) → OnOk r (IsGlance host u v) → OnOk r (Remains (core_of v.pager.levels.parts) (core_of u.pager.levels.parts)) → OnOk r (KeepsCache host u v) → OnOk r (MindsCache host None m v about)
 minds-found {T} {H} (Ok x) host m u v about was core now glance none same = minds-step host m u v about was core now.kept.parts.core glance.remains none same
 minds-found {T} {H} (Err f) host m u v about was core now glance none same = tt
 
 -- ---- two objects that leave, and whose records are exchanged
 
-pub minds-swapped : {T H : Type 0} (r : Result T MemFault) (host : Ghosts H) (m u v w : LoomMemory H) → MindsCache host None m u (λ k. ⊥) → MindsCache host None u v (λ k. ⊥) → OnOk r (w.parts ≡ v.parts) → OnOk r (KeepsCache host v w) → OnOk r (MindsCache host None m w (λ k. ⊥))
+pub minds-swapped : {T H : Type 0} (r : Result T MemFault) (host : Ghosts H) (m u v w : LoomMemory H host) → MindsCache host None m u (λ k. ⊥) → MindsCache host None u v (λ k. ⊥) → OnOk r (w.pager.levels.parts ≡ v.pager.levels.parts) → OnOk r (KeepsCache host v w) → OnOk r (MindsCache host None m w (λ k. ⊥))
 minds-swapped {T} {H} (Ok x) host m u v w first second parts same = minds-parts host m v w (λ k. ⊥) (minds-then host m u v (λ k. ⊥) (λ k. ⊥) (λ k. ⊥) (λ k no. no) (λ k no. no) first second) parts same
 minds-swapped {T} {H} (Err f) host m u v w first second parts same = tt
 
 -- ---- a call after another
 
-pub minds-after : {T H : Type 0} (r : Result T MemFault) (host : Ghosts H) (m u v : LoomMemory H) (about : ℕ → Type 0) → MindsCache host None m u (λ k. ⊥) → OnOk r (MindsCache host None u v about) → OnOk r (MindsCache host None m v about)
+pub minds-after : {T H : Type 0} (r : Result T MemFault) (host : Ghosts H) (m u v : LoomMemory H host) (about : ℕ → Type 0) → MindsCache host None m u (λ k. ⊥) → OnOk r (MindsCache host None u v about) → OnOk r (MindsCache host None m v about)
 minds-after {T} {H} (Ok x) host m u v about first last = minds-then host m u v (λ k. ⊥) about about (λ k no. absurd no) (λ k is. is) first last
 minds-after {T} {H} (Err f) host m u v about first last = tt
 
 -- where the heap is told
-pub minds-told : {T H : Type 0} (r : Result T MemFault) (P : Type 0) (host : Ghosts H) (m u v : LoomMemory H) (about : ℕ → Type 0) → (P → MindsCache host None m u (λ k. ⊥)) → OnOk r (MindsCache host None u v about) → OnOk r (P → MindsCache host None m v about)
+pub minds-told : {T H : Type 0} (r : Result T MemFault) (P : Type 0) (host : Ghosts H) (m u v : LoomMemory H host) (about : ℕ → Type 0) → (P → MindsCache host None m u (λ k. ⊥)) → OnOk r (MindsCache host None u v about) → OnOk r (P → MindsCache host None m v about)
 minds-told {T} {H} (Ok x) P host m u v about first last = λ p. minds-then host m u v (λ k. ⊥) about about (λ k no. absurd no) (λ k is. is) (first p) last
 minds-told {T} {H} (Err f) P host m u v about first last = tt
 
 -- makings are counted anew
-pub minds-anew : {H : Type 0} (host : Ghosts H) (m u v : LoomMemory H) (base : Option ℕ) → MindsCache host None m u (λ k. ⊥) → v ≡ (record u { ledger = record u.ledger { base = base; made = 0 } }) → MindsCache host None m v (λ k. ⊥)
+pub minds-anew : {H : Type 0} (host : Ghosts H) (m u v : LoomMemory H host) (base : Option ℕ) → MindsCache host None m u (λ k. ⊥) → v ≡ (record u { ledger = record u.ledger { base = base; made = 0 } }) → MindsCache host None m v (λ k. ⊥)
 unfolding loom_told
-minds-anew {H} host m u v base x is = minds-parts host m u v (λ k. ⊥) x (ap (λ (z : LoomMemory H). z.parts) is) (ap (λ (z : LoomMemory H). (loom_told host z).cache) is)
+minds-anew {H} host m u v base x is = minds-parts host m u v (λ k. ⊥) x (ap (λ (z : LoomMemory H host). z.pager.levels.parts) is) (ap (λ (z : LoomMemory H host). (loom_told host z).cache) is)
 
 -- ---- an object that is made
 
-pub minds-made : {H : Type 0} (host : Ghosts H) (m n : LoomMemory H) (s name : ℕ) → IsSound host m → IsSound host n → ((core_of n.parts).entries s).name ≡ name → ((t p : ℕ) → t ≢ s → place_of ((core_of n.parts).entries t).state ≡ Some p → IsStill (core_of n.parts) (core_of m.parts) t) → KeepsCache host m n → MindsCache host None m n (λ k. k ≡ name)
+pub minds-made : {H : Type 0} (host : Ghosts H) (m n : LoomMemory H host) (s name : ℕ) → IsSound host m → IsSound host n → ((core_of n.pager.levels.parts).entries s).name ≡ name → ((t p : ℕ) → t ≢ s → place_of ((core_of n.pager.levels.parts).entries t).state ≡ Some p → IsStill (core_of n.pager.levels.parts) (core_of m.pager.levels.parts) t) → KeepsCache host m n → MindsCache host None m n (λ k. k ≡ name)
 minds-made {H} host m n s name sound now named others same = record {
   here = marks-here host n now;
   others = λ k off on. came k (away-out m k sound.kept.parts.core off) on;
   cache = inl same;
 }
   where
-    came : (k : ℕ) → IsOut (core_of m.parts) k → IsTrue (is_resident n k) → k ≡ name
-    came k out on = body-of n k now.kept.parts.core on (λ t p at is. ⊎_elim (λ (h : t ≡ s). sym is ∙ ap (λ (q : ℕ). ((core_of n.parts).entries q).name) h ∙ named)
+    came : (k : ℕ) → IsOut (core_of m.pager.levels.parts) k → IsTrue (is_resident n k) → k ≡ name
+    came k out on = body-of n k now.kept.parts.core on (λ t p at is. ⊎_elim (λ (h : t ≡ s). sym is ∙ ap (λ (q : ℕ). ((core_of n.pager.levels.parts).entries q).name) h ∙ named)
         (λ (h : t ≢ s). absurd (let b = others t p h at in out t b.at b.place (b.name ∙ is))) (cases_eq t s))
 
 -- its name comes into a register
-pub minds-put : {H : Type 0} (host : Ghosts H) (m u v : LoomMemory H) (to name : ℕ) → MindsCache host None m u (λ k. k ≡ name) → IsCore (core_of u.parts) → IsCore (core_of v.parts) → IsSteady host u v → loom_told host v ≡ (record (loom_told host u) { regs = set_register (loom_told host u).regs to (Ref name) })
+pub minds-put : {H : Type 0} (host : Ghosts H) (m u v : LoomMemory H host) (to name : ℕ) → MindsCache host None m u (λ k. k ≡ name) → IsCore (core_of u.pager.levels.parts) → IsCore (core_of v.pager.levels.parts) → IsSteady host u v → loom_told host v ≡ (record (loom_told host u) { regs = set_register (loom_told host u).regs to (Ref name) })
     → MindsCache host None m v (λ k. (loom_told host v).regs to ≡ Ref k)
 minds-put {H} host m u v to name x core now steady told =
     minds-wide host None m v (λ k. k ≡ name) (λ k. (loom_told host v).regs to ≡ Ref k) (λ k is. ap (λ (z : Told). z.regs to) told ∙ set_here (loom_told host u).regs to (Ref name) ∙ ap Ref (sym is))

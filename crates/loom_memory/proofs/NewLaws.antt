@@ -383,3 +383,8 @@ sound-if (Some s) a b d name class n k len header count on x f g = λ t is sound
 pub none-if : (r : Option Short) (a b : Core) (name : ℕ) → IsReadied a b → IfNone r (b.find name ≡ None → ⊥) → IfNone r (a.find name ≡ None → name ≢ NIL → ⊥)
 none-if None a b name x f = λ absent away. f (x.others name away ∙ absent)
 none-if (Some s) a b name x f = tt
+
+-- where no object was made
+pub readied-if : (r : Option Short) (x : Core) (p q : Parts) → IsReadied x (core_of p) → IfNone r (q ≡ p) → IfNone r (IsReadied x (core_of q))
+readied-if (Some s) x p q ready same = tt
+readied-if None x p q ready same = subst (λ (k : Parts). IsReadied x (core_of k)) (sym same) ready

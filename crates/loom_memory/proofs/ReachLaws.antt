@@ -108,7 +108,7 @@ amiss-freed t u w a of f target none silent thin ready err untold =
 -- ---- that it was done of what lives
 
 -- the object was reached, and the heap is as it was left then, but for what the access stores
-done-alive : {H : Type 0} (host : Ghosts H) (m u v : LoomMemory H) (a : Access) → HasThinned (loom_told host m) (loom_told host u) → (IsTrue (host.tells Work) → (loom_told host v).heap ≡ heap_after (loom_told host u).heap (loom_told host u).regs a) → IsTrue (host.tells Work) → IsAlive (loom_told host u) → IsDoneOfLiving (loom_told host m) (loom_told host v) a
+done-alive : {H : Type 0} (host : Ghosts H) (m u v : LoomMemory H host) (a : Access) → HasThinned (loom_told host m) (loom_told host u) → (IsTrue (host.tells Work) → (loom_told host v).heap ≡ heap_after (loom_told host u).heap (loom_told host u).regs a) → IsTrue (host.tells Work) → IsAlive (loom_told host u) → IsDoneOfLiving (loom_told host m) (loom_told host v) a
 unfolding loom_told
 done-alive {H} host m u v a thin heap told alive = record {
   heap = (loom_told host u).heap;
@@ -117,19 +117,19 @@ done-alive {H} host m u v a thin heap told alive = record {
   left = heap told ∙ ap (λ (z : Told). heap_after (loom_told host u).heap z.regs a) thin.same;
 }
 
-pub done-then : {H : Type 0} (host : Ghosts H) (m u v : LoomMemory H) (n : ℕ) (a : Access) → HasThinned (loom_told host m) (loom_told host u) → IsFreedFor host m u n → (IsTrue (host.tells Work) → (loom_told host v).heap ≡ heap_after (loom_told host u).heap (loom_told host u).regs a) → v.due ≡ u.due → StaysBy m v a → IsFreedBy host m v n a
+pub done-then : {H : Type 0} (host : Ghosts H) (m u v : LoomMemory H host) (n : ℕ) (a : Access) → HasThinned (loom_told host m) (loom_told host u) → IsFreedFor host m u n → (IsTrue (host.tells Work) → (loom_told host v).heap ≡ heap_after (loom_told host u).heap (loom_told host u).regs a) → v.due ≡ u.due → StaysBy m v a → IsFreedBy host m v n a
 done-then {H} host m u v n a thin gone heap same stays = record {
   gone = λ told away lacks due. done-alive host m u v a thin heap told (gone.gone told away lacks due);
   due = λ told. ⊎_elim (λ (low : u.due ≤ m.due). inl (omega arith)) (λ (alive : IsAlive (loom_told host u)). inr (done-alive host m u v a thin heap told alive)) gone.due;
   stays = stays;
 }
 
-pub done-by : {T H : Type 0} (r : Result T MemFault) (host : Ghosts H) (m u v : LoomMemory H) (n : ℕ) (a : Access) → HasThinned (loom_told host m) (loom_told host u) → IsFreedFor host m u n → OnOk r (IsTrue (host.tells Work) → (loom_told host v).heap ≡ heap_after (loom_told host u).heap (loom_told host u).regs a) → OnOk r (v.due ≡ u.due) → OnOk r (StaysBy m v a) → OnOk r (IsFreedBy host m v n a)
+pub done-by : {T H : Type 0} (r : Result T MemFault) (host : Ghosts H) (m u v : LoomMemory H host) (n : ℕ) (a : Access) → HasThinned (loom_told host m) (loom_told host u) → IsFreedFor host m u n → OnOk r (IsTrue (host.tells Work) → (loom_told host v).heap ≡ heap_after (loom_told host u).heap (loom_told host u).regs a) → OnOk r (v.due ≡ u.due) → OnOk r (StaysBy m v a) → OnOk r (IsFreedBy host m v n a)
 done-by {T} {H} (Ok x) host m u v n a thin gone heap same stays = done-then host m u v n a thin gone heap same stays
 done-by {T} {H} (Err f) host m u v n a thin gone heap same stays = tt
 
 -- an object that is here didn't come in
-pub done-here : {T H : Type 0} (r : Result T MemFault) (host : Ghosts H) (m v : LoomMemory H) (n : ℕ) (a : Access) → IsTrue (is_resident m n) → v.due ≡ m.due → StaysBy m v a → OnOk r (IsFreedBy host m v n a)
+pub done-here : {T H : Type 0} (r : Result T MemFault) (host : Ghosts H) (m v : LoomMemory H host) (n : ℕ) (a : Access) → IsTrue (is_resident m n) → v.due ≡ m.due → StaysBy m v a → OnOk r (IsFreedBy host m v n a)
 done-here {T} {H} (Ok x) host m v n a here same stays = record {
   gone = λ told away lacks due. absurd (let both : true ≡ false = sym here ∙ away in cc);
   due = λ told. inl (omega arith);
@@ -138,7 +138,7 @@ done-here {T} {H} (Ok x) host m v n a here same stays = record {
 done-here {T} {H} (Err f) host m v n a here same stays = tt
 
 -- entries were asked for
-pub done-short : {T H : Type 0} (r : Result T MemFault) (host : Ghosts H) (m u v : LoomMemory H) (a : Access) → HasThinned (loom_told host m) (loom_told host u) → IsFreed host m u 0 27 → OnOk r (IsTrue (host.tells Work) → (loom_told host v).heap ≡ heap_after (loom_told host u).heap (loom_told host u).regs a) → OnOk r (IsFreedShort host m v a)
+pub done-short : {T H : Type 0} (r : Result T MemFault) (host : Ghosts H) (m u v : LoomMemory H host) (a : Access) → HasThinned (loom_told host m) (loom_told host u) → IsFreed host m u 0 27 → OnOk r (IsTrue (host.tells Work) → (loom_told host v).heap ≡ heap_after (loom_told host u).heap (loom_told host u).regs a) → OnOk r (IsFreedShort host m v a)
 done-short {T} {H} (Ok x) host m u v a thin gone heap = λ told lacks due. done-alive host m u v a thin heap told (gone lacks due)
 done-short {T} {H} (Err f) host m u v a thin gone heap = tt
 
@@ -146,49 +146,49 @@ pub short-off : {T : Type 0} (P Q : Type 0) (r : Result T MemFault) → OnOk r Q
 short-off {T} P Q (Ok x) q = λ p. q
 short-off {T} P Q (Err f) q = tt
 
-pub stored-heap : {H : Type 0} (r : Result (Unit {0}) MemFault) (host : Ghosts H) (u v : LoomMemory H) (a : Access) → OnOk r (IsStored (loom_told host u) (loom_told host v) a) → OnOk r (IsTrue (host.tells Work) → (loom_told host v).heap ≡ heap_after (loom_told host u).heap (loom_told host u).regs a)
+pub stored-heap : {H : Type 0} (r : Result (Unit {0}) MemFault) (host : Ghosts H) (u v : LoomMemory H host) (a : Access) → OnOk r (IsStored (loom_told host u) (loom_told host v) a) → OnOk r (IsTrue (host.tells Work) → (loom_told host v).heap ≡ heap_after (loom_told host u).heap (loom_told host u).regs a)
 unfolding loom_told
 stored-heap {H} (Ok x) host u v a stored = λ told. ap (λ (z : Told). z.heap) stored.same ∙ stored.stored told
 stored-heap {H} (Err f) host u v a stored = tt
 
-pub taken-heap : {H : Type 0} (r : Result (Unit {0}) MemFault) (host : Ghosts H) (u v : LoomMemory H) (to of i : ℕ) → OnOk r (IsTaken (loom_told host u) (loom_told host v) to of i) → OnOk r (IsTrue (host.tells Work) → (loom_told host v).heap ≡ (loom_told host u).heap)
+pub taken-heap : {H : Type 0} (r : Result (Unit {0}) MemFault) (host : Ghosts H) (u v : LoomMemory H host) (to of i : ℕ) → OnOk r (IsTaken (loom_told host u) (loom_told host v) to of i) → OnOk r (IsTrue (host.tells Work) → (loom_told host v).heap ≡ (loom_told host u).heap)
 taken-heap {H} (Ok x) host u v to of i taken = λ told. ap (λ (z : Told). z.heap) taken.same
 taken-heap {H} (Err f) host u v to of i taken = tt
 
-pub said-heap : {H : Type 0} (r : Result (Unit {0}) MemFault) (host : Ghosts H) (u v : LoomMemory H) (of k : ℕ) → OnOk r ((t : Told) → IsSaid t (loom_told host u) of 0 → IsSaid t (loom_told host v) of k) → OnOk r (IsTrue (host.tells Work) → (loom_told host v).heap ≡ (loom_told host u).heap)
+pub said-heap : {H : Type 0} (r : Result (Unit {0}) MemFault) (host : Ghosts H) (u v : LoomMemory H host) (of k : ℕ) → OnOk r ((t : Told) → IsSaid t (loom_told host u) of 0 → IsSaid t (loom_told host v) of k) → OnOk r (IsTrue (host.tells Work) → (loom_told host v).heap ≡ (loom_told host u).heap)
 said-heap {H} (Ok x) host u v of k said = λ told. ap (λ (z : Told). z.heap) (said (loom_told host u) (said-none (loom_told host u) (loom_told host u) of (quiet-refl (loom_told host u)))).same
 said-heap {H} (Err f) host u v of k said = tt
 
 -- it was opened to be stored into
-pub freed-open : {H : Type 0} (host : Ghosts H) (m u v : LoomMemory H) (n : ℕ) → IsFreedFor host m u n → IsQuiet (loom_told host u) (loom_told host v) → v.due ≡ u.due → v.thinned ≡ u.thinned → IsFreedFor host m v n
+pub freed-open : {H : Type 0} (host : Ghosts H) (m u v : LoomMemory H host) (n : ℕ) → IsFreedFor host m u n → IsQuiet (loom_told host u) (loom_told host v) → v.due ≡ u.due → v.thinned ≡ u.thinned → IsFreedFor host m v n
 freed-open {H} host m u v n gone quiet due thinned = record {
   gone = λ told away lacks late. alive-quiet (loom_told host u) (loom_told host v) quiet (gone.gone told away lacks late);
   due = time-quiet host m u v gone.due due quiet;
   stays = λ on. thinned ∙ gone.stays on;
 }
 
-pub freed-here : {H : Type 0} (host : Ghosts H) (m : LoomMemory H) (n : ℕ) → IsTrue (is_resident m n) → IsFreedFor host m m n
+pub freed-here : {H : Type 0} (host : Ghosts H) (m : LoomMemory H host) (n : ℕ) → IsTrue (is_resident m n) → IsFreedFor host m m n
 freed-here {H} host m n here = record {
   gone = λ told away. absurd (let both : true ≡ false = sym here ∙ away in cc);
   due = inl (omega arith);
   stays = λ on. on;
 }
 
-pub freed-came : {T H : Type 0} (r : Result T MemFault) (host : Ghosts H) (m u : LoomMemory H) (of n : ℕ) → place_of ((core_of m.parts).entries (word_in m.regs of)).state ≡ None → OnOk r (IsTrue (host.tells Work) → place_of ((core_of m.parts).entries (word_in m.regs of)).state ≡ None → IsFreed host m u (words_at (loom_told host m).heap n) 27)
+pub freed-came : {T H : Type 0} (r : Result T MemFault) (host : Ghosts H) (m u : LoomMemory H host) (of n : ℕ) → place_of ((core_of m.pager.levels.parts).entries (word_in m.regs of)).state ≡ None → OnOk r (IsTrue (host.tells Work) → place_of ((core_of m.pager.levels.parts).entries (word_in m.regs of)).state ≡ None → IsFreed host m u (words_at (loom_told host m).heap n) 27)
     → OnOk r (IsOnTime host m u) → OnOk r (KeepsThinned m u) → OnOk r (IsFreedFor host m u n)
 freed-came {T} {H} (Ok x) host m u of n leaf gone due stays = record { gone = λ told away. gone told leaf; due = due; stays = stays }
 freed-came {T} {H} (Err f) host m u of n leaf gone due stays = tt
 
 -- as its entry has it
-pub freed-away : {H : Type 0} (host : Ghosts H) (m u : LoomMemory H) (of : ℕ) → IsSound host m → IsRef ((loom_told host m).regs of)
-    → (IsTrue (host.tells Work) → place_of ((core_of m.parts).entries (word_in m.regs of)).state ≡ None → IsFreed host m u (words_at (loom_told host m).heap (name_at ((loom_told host m).regs of))) 27) → IsOnTime host m u → KeepsThinned m u → IsFreedFor host m u (name_at ((loom_told host m).regs of))
+pub freed-away : {H : Type 0} (host : Ghosts H) (m u : LoomMemory H host) (of : ℕ) → IsSound host m → IsRef ((loom_told host m).regs of)
+    → (IsTrue (host.tells Work) → place_of ((core_of m.pager.levels.parts).entries (word_in m.regs of)).state ≡ None → IsFreed host m u (words_at (loom_told host m).heap (name_at ((loom_told host m).regs of))) 27) → IsOnTime host m u → KeepsThinned m u → IsFreedFor host m u (name_at ((loom_told host m).regs of))
 freed-away {H} host m u of sound ref gone due stays = record {
-  gone = λ told away. gone told (go (place_of ((core_of m.parts).entries (word_in m.regs of)).state) refl (sym (resident-at host m of (word_in m.regs of) sound ref refl) ∙ away));
+  gone = λ told away. gone told (go (place_of ((core_of m.pager.levels.parts).entries (word_in m.regs of)).state) refl (sym (resident-at host m of (word_in m.regs of) sound ref refl) ∙ away));
   due = due;
   stays = stays;
 }
   where
-    go : (x : Option ℕ) → place_of ((core_of m.parts).entries (word_in m.regs of)).state ≡ x → is_some (place_of ((core_of m.parts).entries (word_in m.regs of)).state) ≡ false → place_of ((core_of m.parts).entries (word_in m.regs of)).state ≡ None
+    go : (x : Option ℕ) → place_of ((core_of m.pager.levels.parts).entries (word_in m.regs of)).state ≡ x → is_some (place_of ((core_of m.pager.levels.parts).entries (word_in m.regs of)).state) ≡ false → place_of ((core_of m.pager.levels.parts).entries (word_in m.regs of)).state ≡ None
     go None e off = e
     go (Some p) e off = absurd (let both : true ≡ false = sym (ap (λ (o : Option ℕ). is_some o) e) ∙ off in cc)
 

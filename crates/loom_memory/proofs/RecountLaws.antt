@@ -79,7 +79,7 @@ recount-here c d r here s on marked =
     let body = here s (sym (recount-used c d s r) ∙ on) (sym (recount-same c d s (λ e. e.flags.marked) (λ e x. refl) r) ∙ marked) in
     (body.0, recount-place c d s r ∙ body.1)
 
-recount-calm : (pins : Pinned) (c d : Core) → IsRecount c d → IsCalm pins c d
+pub recount-calm : (pins : Pinned) (c d : Core) → IsRecount c d → IsCalm pins c d
 recount-calm pins c d r = record {
   marks = Marks-same c d (recount-marks c d r);
   here = recount-here c d r;
@@ -89,7 +89,7 @@ recount-calm pins c d r = record {
   pinned = λ t p among at. record { at = p; place = recount-place c d t r ∙ at; name = recount-name c d t r };
 }
 
-recount-tight : (c d : Core) → IsRecount c d → IsTight c → IsTight d
+pub recount-tight : (c d : Core) → IsRecount c d → IsTight c → IsTight d
 recount-tight c d r = owners-tight c d (λ p. ap (λ (f : ℕ → Chunk). (f p).owner) r.chunks) (λ q. recount-place c d q r)
 
 recount-fresh : (c d : Core) → IsRecount c d → fresh_of d ≡ fresh_of c

@@ -31,20 +31,20 @@ use Rattle.loom_memory.proofs.WordLaws.{slots-have}
 -- ---- what is left after all went that may
 
 -- where nothing but the objects of the slots has a body, a slot names each object in the core
-pub only-pinned : {H : Type 0} (host : Ghosts H) (m : LoomMemory H) (n : ℕ) → IsSound host m → IsBare m.pinned.a m.pinned.b m.pinned.d (core_of m.parts) → IsTrue (is_resident m n) → IsTrue (has_slot (loom_told host m).slots n)
+pub only-pinned : {H : Type 0} (host : Ghosts H) (m : LoomMemory H host) (n : ℕ) → IsSound host m → IsBare m.pager.pinned.a m.pager.pinned.b m.pager.pinned.d (core_of m.pager.levels.parts) → IsTrue (is_resident m n) → IsTrue (has_slot (loom_told host m).slots n)
 unfolding is_resident loom_told
-only-pinned {H} host m n sound bare = go ((core_of m.parts).find n) refl
+only-pinned {H} host m n sound bare = go ((core_of m.pager.levels.parts).find n) refl
   where
-    go : (x : Option ℕ) → (core_of m.parts).find n ≡ x → has_body (core_of m.parts) x ≡ true → has_slot (loom_told host m).slots n ≡ true
+    go : (x : Option ℕ) → (core_of m.pager.levels.parts).find n ≡ x → has_body (core_of m.pager.levels.parts) x ≡ true → has_slot (loom_told host m).slots n ≡ true
     go None e here = absurd (cc)
-    go (Some s) e here = at (place_of ((core_of m.parts).entries s).state) refl here
+    go (Some s) e here = at (place_of ((core_of m.pager.levels.parts).entries s).state) refl here
       where
-        at : (x : Option ℕ) → place_of ((core_of m.parts).entries s).state ≡ x → is_some x ≡ true → has_slot (loom_told host m).slots n ≡ true
+        at : (x : Option ℕ) → place_of ((core_of m.pager.levels.parts).entries s).state ≡ x → is_some x ≡ true → has_slot (loom_told host m).slots n ≡ true
         at None f here = absurd (cc)
         at (Some p) f here =
             let core = sound.kept.parts.core in
             let used = core.used n s e in
-            sym (slots-have (core_of m.parts) m.pinned s n core sound.kept.pinned used (short-some s (core.short s used)) (sym (core.named n s e))) ∙ bare.pinned s p f
+            sym (slots-have (core_of m.pager.levels.parts) m.pager.pinned s n core sound.kept.pinned used (short-some s (core.short s used)) (sym (core.named n s e))) ∙ bare.pinned s p f
 
 -- ---- words
 

@@ -162,29 +162,29 @@ transcript-work = λ e. cc
 pub same-disk : {H : Type 0} (host : Ghosts H) (old new : H) (rest now : DiskRest) → now ≡ rest → host.roles new Work ≡ host.roles old Work → disk_of host new now ≡ disk_of host old rest
 same-disk {H} host old new rest now same work = ap (λ (r : DiskRest). objects_at r (work_of host new)) same ∙ ap (λ (s : RoleState). objects_at rest s.contents) work
 
-pub put-told : {H : Type 0} (host : Ghosts H) (m : LoomMemory H) (new : H) (now : DiskRest) (run : List ℕ) → now ≡ m.disk.rest → host.roles new Work ≡ host.roles m.disk.host.now Work → SameBut Transcript (host.faults m.disk.host.now) (host.faults new) → host.faults m.disk.host.now Transcript ≤ host.faults new Transcript
-    → (IsTrue (host.tells Transcript) → (host.roles new Transcript).put ≡ (host.roles m.disk.host.now Transcript).put ++ run)
-    → IsPut (told_of host m.disk.host.now m.disk.rest (core_of m.parts) m.regs m.pinned m.ledger) (told_of host new now (core_of m.parts) m.regs m.pinned m.ledger) run
+pub put-told : {H : Type 0} (host : Ghosts H) (m : LoomMemory H host) (new : H) (now : DiskRest) (run : List ℕ) → now ≡ m.pager.levels.disk.rest → host.roles new Work ≡ host.roles m.pager.levels.disk.host.now Work → SameBut Transcript (host.faults m.pager.levels.disk.host.now) (host.faults new) → host.faults m.pager.levels.disk.host.now Transcript ≤ host.faults new Transcript
+    → (IsTrue (host.tells Transcript) → (host.roles new Transcript).put ≡ (host.roles m.pager.levels.disk.host.now Transcript).put ++ run)
+    → IsPut (told_of host m.pager.levels.disk.host.now m.pager.levels.disk.rest (core_of m.pager.levels.parts) m.regs m.pager.pinned m.ledger) (told_of host new now (core_of m.pager.levels.parts) m.regs m.pager.pinned m.ledger) run
 put-told {H} host m new now run same work faults later put =
-    let disk = same-disk host m.disk.host.now new m.disk.rest now same work in
-    let heap = ap (λ (d : Disk). heap_if (host.tells Work) (held (core_of m.parts) d) m.ledger.next) disk in
+    let disk = same-disk host m.pager.levels.disk.host.now new m.pager.levels.disk.rest now same work in
+    let heap = ap (λ (d : Disk). heap_if (host.tells Work) (held (core_of m.pager.levels.parts) d) m.ledger.next) disk in
     record {
-      same = λ i. record (told_of host new now (core_of m.parts) m.regs m.pinned m.ledger) { heap = heap i };
+      same = λ i. record (told_of host new now (core_of m.pager.levels.parts) m.regs m.pager.pinned m.ledger) { heap = heap i };
       bounds = (refl, refl, ap disk_room same, (let is = faults Work transcript-work in omega (arith, is)), later);
       counts = (refl, sym (add-zero m.ledger.made));
       joined = put;
     }
 
-pub put-sound : {H : Type 0} (host : Ghosts H) (m : LoomMemory H) (new : H) (now : DiskRest) → IsSound host m → now ≡ m.disk.rest → host.roles new Work ≡ host.roles m.disk.host.now Work → HoldsObjects host new now → IsOver host new now (core_of m.parts) m.ledger
+pub put-sound : {H : Type 0} (host : Ghosts H) (m : LoomMemory H host) (new : H) (now : DiskRest) → IsSound host m → now ≡ m.pager.levels.disk.rest → host.roles new Work ≡ host.roles m.pager.levels.disk.host.now Work → HoldsObjects host new now → IsOver host new now (core_of m.pager.levels.parts) m.ledger
 put-sound {H} host m new now sound same work stands =
-    let disk = same-disk host m.disk.host.now new m.disk.rest now same work in
+    let disk = same-disk host m.pager.levels.disk.host.now new m.pager.levels.disk.rest now same work in
     record {
       stands = stands;
-      backed = λ told. subst (λ (d : Disk). IsBacked (core_of m.parts) d) (sym disk) (sound.over.backed told);
-      counted = λ told. ap (λ (r : DiskRest). disk_held r + fresh_of (core_of m.parts)) same ∙ sound.over.counted told;
+      backed = λ told. subst (λ (d : Disk). IsBacked (core_of m.pager.levels.parts) d) (sym disk) (sound.over.backed told);
+      counted = λ told. ap (λ (r : DiskRest). disk_held r + fresh_of (core_of m.pager.levels.parts)) same ∙ sound.over.counted told;
       roomy = subst (λ (n : ℕ). m.ledger.held ≤ n) (sym (ap disk_room same)) sound.over.roomy;
       based = subst (λ (n : ℕ). IsNumbered m.ledger.base m.ledger.made m.ledger.held m.ledger.next n) (sym (ap disk_room same)) sound.over.based;
-      valued = λ told. subst (λ (d : Disk). IsValued (held (core_of m.parts) d)) (sym disk) (sound.over.valued told);
+      valued = λ told. subst (λ (d : Disk). IsValued (held (core_of m.pager.levels.parts) d)) (sym disk) (sound.over.valued told);
     }
 
 pub put-outside : {H : Type 0} (host : Ghosts H) (old new : H) → SameBut Transcript (host.roles old) (host.roles new) → SameBut Transcript (host.faults old) (host.faults new) → ◌≡◌ {A = Role → Others} (λ r. others_of (host.tells Work) r (host.roles new r) (host.faults new r)) (λ r. others_of (host.tells Work) r (host.roles old r) (host.faults old r))

@@ -37,13 +37,13 @@ use Rattle.loom_memory.proofs.CacheLaws.{left-refl, left-trans}
 
 -- ---- the numbers begin anew
 
-pub begun-told : {H : Type 0} (host : Ghosts H) (m n : LoomMemory H) (base : Option ℕ) → n ≡ record m { ledger = n.ledger } → n.ledger ≡ record m.ledger { base = base; made = 0 } → HasBegun (loom_told host m) (loom_told host n) base
+pub begun-told : {H : Type 0} (host : Ghosts H) (m n : LoomMemory H host) (base : Option ℕ) → n ≡ record m { ledger = n.ledger } → n.ledger ≡ record m.ledger { base = base; made = 0 } → HasBegun (loom_told host m) (loom_told host n) base
 unfolding loom_told
-begun-told {H} host m n base is same = subst (λ (z : LoomMemory H). HasBegun (told_of host m.disk.host.now m.disk.rest (core_of m.parts) m.regs m.pinned m.ledger) (told_of host z.disk.host.now z.disk.rest (core_of z.parts) z.regs z.pinned z.ledger) base) (sym is)
-    (subst (λ (k : Ledger). HasBegun (told_of host m.disk.host.now m.disk.rest (core_of m.parts) m.regs m.pinned m.ledger) (told_of host m.disk.host.now m.disk.rest (core_of m.parts) m.regs m.pinned k) base) (sym same)
+begun-told {H} host m n base is same = subst (λ (z : LoomMemory H host). HasBegun (told_of host m.pager.levels.disk.host.now m.pager.levels.disk.rest (core_of m.pager.levels.parts) m.regs m.pager.pinned m.ledger) (told_of host z.pager.levels.disk.host.now z.pager.levels.disk.rest (core_of z.pager.levels.parts) z.regs z.pager.pinned z.ledger) base) (sym is)
+    (subst (λ (k : Ledger). HasBegun (told_of host m.pager.levels.disk.host.now m.pager.levels.disk.rest (core_of m.pager.levels.parts) m.regs m.pager.pinned m.ledger) (told_of host m.pager.levels.disk.host.now m.pager.levels.disk.rest (core_of m.pager.levels.parts) m.regs m.pager.pinned k) base) (sym same)
     (record { same = refl; bounds = (refl, refl, refl, omega arith, omega arith); settled = refl; base_is = refl }))
 
-begun-kept : {H : Type 0} (host : Ghosts H) (m : LoomMemory H) (base : Option ℕ) → IsSound host m → IsNumbered base 0 m.ledger.held m.ledger.next (disk_room m.disk.rest) → IsSound host (record m { ledger = record m.ledger { base = base; made = 0 } })
+begun-kept : {H : Type 0} (host : Ghosts H) (m : LoomMemory H host) (base : Option ℕ) → IsSound host m → IsNumbered base 0 m.ledger.held m.ledger.next (disk_room m.pager.levels.disk.rest) → IsSound host (record m { ledger = record m.ledger { base = base; made = 0 } })
 unfolding loom_told IsThin
 begun-kept {H} host m base sound numbers =
     let kept = sound.kept in
@@ -56,7 +56,7 @@ begun-kept {H} host m base sound numbers =
       thin = sound.thin;
     }
 
-pub begun-sound : {H : Type 0} (host : Ghosts H) (m : LoomMemory H) (l : Ledger) (base : Option ℕ) → IsSound host m → IsNumbered base 0 m.ledger.held m.ledger.next (disk_room m.disk.rest) → l ≡ record m.ledger { base = base; made = 0 } → IsSound host (record m { ledger = l })
+pub begun-sound : {H : Type 0} (host : Ghosts H) (m : LoomMemory H host) (l : Ledger) (base : Option ℕ) → IsSound host m → IsNumbered base 0 m.ledger.held m.ledger.next (disk_room m.pager.levels.disk.rest) → l ≡ record m.ledger { base = base; made = 0 } → IsSound host (record m { ledger = l })
 begun-sound {H} host m l base sound numbers is = subst (λ (k : Ledger). IsSound host (record m { ledger = k })) (sym is) (begun-kept host m base sound numbers)
 
 -- there was room for eight more
@@ -268,10 +268,10 @@ settle-now (Ok x) t u v settled quiet ready = settled-ready t v (settled-quiet t
 settle-now (Err f) t u v settled quiet ready = tt
 
 -- what was so of a step before a step that leaves the numbers
-pub settle-fetches : {H : Type 0} (r : Result (Unit {0}) MemFault) (m u v : LoomMemory H) → fetched u ≡ fetched m → OnOk r (v.ledger ≡ u.ledger) → OnOk r (fetched v ≡ fetched m)
+pub settle-fetches : {H : Type 0} {host : Ghosts H} (r : Result (Unit {0}) MemFault) (m u v : LoomMemory H host) → fetched u ≡ fetched m → OnOk r (v.ledger ≡ u.ledger) → OnOk r (fetched v ≡ fetched m)
 unfolding fetched
-settle-fetches {H} (Ok x) m u v was same = ap (λ (k : Ledger). k.fetches) same ∙ was
-settle-fetches {H} (Err f) m u v was same = tt
+settle-fetches {H} {host} (Ok x) m u v was same = ap (λ (k : Ledger). k.fetches) same ∙ was
+settle-fetches {H} {host} (Err f) m u v was same = tt
 
 -- ---- what stays in the core
 
@@ -283,58 +283,58 @@ pub bodies-same : (p r : Parts) (h : Heap) → r ≡ p → KeepsHeld (core_of p)
 bodies-same p r h same = subst (λ (z : Parts). KeepsHeld (core_of p) (core_of z) h) (sym same) (λ s at place has. body-stays (core_of p) s at place)
 
 -- each object in the core that is held then is there
-pub held-residents : {H : Type 0} (m n : LoomMemory H) (h : Heap) → IsCore (core_of m.parts) → IsCore (core_of n.parts) → KeepsHeld (core_of m.parts) (core_of n.parts) h → (k : ℕ) → IsTrue (is_resident m k) → Has h k → IsTrue (is_resident n k)
+pub held-residents : {H : Type 0} {host : Ghosts H} (m n : LoomMemory H host) (h : Heap) → IsCore (core_of m.pager.levels.parts) → IsCore (core_of n.pager.levels.parts) → KeepsHeld (core_of m.pager.levels.parts) (core_of n.pager.levels.parts) h → (k : ℕ) → IsTrue (is_resident m k) → Has h k → IsTrue (is_resident n k)
 unfolding is_resident
-held-residents {H} m n h core now bodies k here has = go ((core_of m.parts).find k) refl here
+held-residents {H} {host} m n h core now bodies k here has = go ((core_of m.pager.levels.parts).find k) refl here
   where
-    go : (x : Option ℕ) → (core_of m.parts).find k ≡ x → has_body (core_of m.parts) x ≡ true → has_body (core_of n.parts) ((core_of n.parts).find k) ≡ true
+    go : (x : Option ℕ) → (core_of m.pager.levels.parts).find k ≡ x → has_body (core_of m.pager.levels.parts) x ≡ true → has_body (core_of n.pager.levels.parts) ((core_of n.pager.levels.parts).find k) ≡ true
     go None e here = absurd (cc)
-    go (Some s) e here = at (place_of ((core_of m.parts).entries s).state) refl here
+    go (Some s) e here = at (place_of ((core_of m.pager.levels.parts).entries s).state) refl here
       where
-        at : (x : Option ℕ) → place_of ((core_of m.parts).entries s).state ≡ x → is_some x ≡ true → has_body (core_of n.parts) ((core_of n.parts).find k) ≡ true
+        at : (x : Option ℕ) → place_of ((core_of m.pager.levels.parts).entries s).state ≡ x → is_some x ≡ true → has_body (core_of n.pager.levels.parts) ((core_of n.pager.levels.parts).find k) ≡ true
         at None f here = absurd (cc)
         at (Some p) f here =
             let still = bodies s p f (subst (λ (i : ℕ). Has h i) (sym (core.named k s e)) has) in
-            let found : (core_of n.parts).find k ≡ Some s = ap (core_of n.parts).find (sym (still.name ∙ core.named k s e)) ∙ now.found s (placed-used ((core_of n.parts).entries s).state still.at still.place) in
-            ap (λ (x : Option ℕ). has_body (core_of n.parts) x) found ∙ ap (λ (x : Option ℕ). is_some x) still.place
+            let found : (core_of n.pager.levels.parts).find k ≡ Some s = ap (core_of n.pager.levels.parts).find (sym (still.name ∙ core.named k s e)) ∙ now.found s (placed-used ((core_of n.pager.levels.parts).entries s).state still.at still.place) in
+            ap (λ (x : Option ℕ). has_body (core_of n.pager.levels.parts) x) found ∙ ap (λ (x : Option ℕ). is_some x) still.place
 
 -- where so many entries are free, each object in the core that is still held stays there
-pub settle-stays : {H : Type 0} (r : Result (Unit {0}) MemFault) (host : Ghosts H) (m u v : LoomMemory H) → IsCore (core_of m.parts) → IsCore (core_of u.parts) → spare_of m.parts ≤ spare_of u.parts
-    → (IsTrue (host.tells Work) → KeepsHeld (core_of m.parts) (core_of u.parts) (loom_told host u).heap) → OnOk r (128 ≤ spare_of u.parts → v ≡ u)
-    → OnOk r (128 ≤ spare_of m.parts → IsTrue (host.tells Work) → (k : ℕ) → IsTrue (is_resident m k) → Has (loom_told host v).heap k → IsTrue (is_resident v k))
+pub settle-stays : {H : Type 0} (r : Result (Unit {0}) MemFault) (host : Ghosts H) (m u v : LoomMemory H host) → IsCore (core_of m.pager.levels.parts) → IsCore (core_of u.pager.levels.parts) → spare_of m.pager.levels.parts ≤ spare_of u.pager.levels.parts
+    → (IsTrue (host.tells Work) → KeepsHeld (core_of m.pager.levels.parts) (core_of u.pager.levels.parts) (loom_told host u).heap) → OnOk r (128 ≤ spare_of u.pager.levels.parts → v ≡ u)
+    → OnOk r (128 ≤ spare_of m.pager.levels.parts → IsTrue (host.tells Work) → (k : ℕ) → IsTrue (is_resident m k) → Has (loom_told host v).heap k → IsTrue (is_resident v k))
 settle-stays {H} (Ok x) host m u v core now more bodies same = λ enough told k here.
-    subst (λ (z : LoomMemory H). Has (loom_told host z).heap k → IsTrue (is_resident z k)) (sym (same (omega (arith, more, enough)))) (held-residents m u (loom_told host u).heap core now (bodies told) k here)
+    subst (λ (z : LoomMemory H host). Has (loom_told host z).heap k → IsTrue (is_resident z k)) (sym (same (omega (arith, more, enough)))) (held-residents m u (loom_told host u).heap core now (bodies told) k here)
 settle-stays {H} (Err f) host m u v core now more bodies same = tt
 
 -- ---- where there is nothing to do
 
-pub anew-rested : {H : Type 0} (m u v : LoomMemory H) → u ≡ m → v ≡ (record u { ledger = record u.ledger { base = None; made = 0 } }) → HasRested m v (Ok tt)
-anew-rested {H} m u v first last = record { ok = refl; same = last ∙ ap (λ (z : LoomMemory H). record z { ledger = record z.ledger { base = None; made = 0 } }) first }
+pub anew-rested : {H : Type 0} {host : Ghosts H} (m u v : LoomMemory H host) → u ≡ m → v ≡ (record u { ledger = record u.ledger { base = None; made = 0 } }) → HasRested m v (Ok tt)
+anew-rested {H} {host} m u v first last = record { ok = refl; same = last ∙ ap (λ (z : LoomMemory H host). record z { ledger = record z.ledger { base = None; made = 0 } }) first }
 
 -- no making is counted, and as many are held, where none went
-pub rested-room : {H : Type 0} (r : Result (Unit {0}) MemFault) (m v : LoomMemory H) → OnOk r (v.ledger.base ≡ None) → (128 ≤ spare_of m.parts → HasRested m v r) → OnOk r ((v.ledger.base ≡ None) × (128 ≤ spare_of m.parts → v.ledger.held ≡ m.ledger.held))
-rested-room {H} (Ok x) m v none rests = (none, λ enough. ap (λ (z : LoomMemory H). z.ledger.held) (rests enough).same)
-rested-room {H} (Err f) m v none rests = tt
+pub rested-room : {H : Type 0} {host : Ghosts H} (r : Result (Unit {0}) MemFault) (m v : LoomMemory H host) → OnOk r (v.ledger.base ≡ None) → (128 ≤ spare_of m.pager.levels.parts → HasRested m v r) → OnOk r ((v.ledger.base ≡ None) × (128 ≤ spare_of m.pager.levels.parts → v.ledger.held ≡ m.ledger.held))
+rested-room {H} {host} (Ok x) m v none rests = (none, λ enough. ap (λ (z : LoomMemory H host). z.ledger.held) (rests enough).same)
+rested-room {H} {host} (Err f) m v none rests = tt
 
-pub rested-idle : {H : Type 0} (r : Result (Unit {0}) MemFault) (m v : LoomMemory H) → HasRested m v r → OnOk r (IsIdle m v)
+pub rested-idle : {H : Type 0} {host : Ghosts H} (r : Result (Unit {0}) MemFault) (m v : LoomMemory H host) → HasRested m v r → OnOk r (IsIdle m v)
 unfolding fetched
-rested-idle {H} (Ok x) m v is = record {
-  host = ap (λ (z : LoomMemory H). z.disk.host.now) is.same;
-  rest = ap (λ (z : LoomMemory H). z.disk.rest) is.same;
-  fetches = ap (λ (z : LoomMemory H). z.ledger.fetches) is.same;
+rested-idle {H} {host} (Ok x) m v is = record {
+  host = ap (λ (z : LoomMemory H host). z.pager.levels.disk.host.now) is.same;
+  rest = ap (λ (z : LoomMemory H host). z.pager.levels.disk.rest) is.same;
+  fetches = ap (λ (z : LoomMemory H host). z.ledger.fetches) is.same;
 }
-rested-idle {H} (Err f) m v is = tt
+rested-idle {H} {host} (Err f) m v is = tt
 
-pub rested-cached : {H : Type 0} (r : Result (Unit {0}) MemFault) (host : Ghosts H) (m v : LoomMemory H) → HasRested m v r → OnOk r (KeepsCache host m v)
+pub rested-cached : {H : Type 0} (r : Result (Unit {0}) MemFault) (host : Ghosts H) (m v : LoomMemory H host) → HasRested m v r → OnOk r (KeepsCache host m v)
 unfolding loom_told
-rested-cached {H} (Ok x) host m v is = ap (λ (z : LoomMemory H). cache_of (core_of z.parts) (found z.ledger.rows) z.ledger.mark z.ledger.begun) is.same
+rested-cached {H} (Ok x) host m v is = ap (λ (z : LoomMemory H host). cache_of (core_of z.pager.levels.parts) (found z.ledger.rows) z.ledger.mark z.ledger.begun) is.same
 rested-cached {H} (Err f) host m v is = tt
 
 -- no object had to go: the heap is as it was, whatever left the core
-pub rested-whole : {H : Type 0} (r : Result (Unit {0}) MemFault) (host : Ghosts H) (m u v : LoomMemory H) → u ≡ (record m { ledger = record m.ledger { base = None; made = 0 } }) → OnOk r (IsQuiet (loom_told host u) (loom_told host v))
+pub rested-whole : {H : Type 0} (r : Result (Unit {0}) MemFault) (host : Ghosts H) (m u v : LoomMemory H host) → u ≡ (record m { ledger = record m.ledger { base = None; made = 0 } }) → OnOk r (IsQuiet (loom_told host u) (loom_told host v))
     → OnOk r ((loom_told host v).heap ≡ (loom_told host m).heap)
 unfolding loom_told
-rested-whole {H} (Ok x) host m u v same quiet = ap (λ (z : Told). z.heap) quiet.same ∙ ap (λ (z : LoomMemory H). heap_if (host.tells Work) (held (core_of z.parts) (disk_of host z.disk.host.now z.disk.rest)) z.ledger.next) same
+rested-whole {H} (Ok x) host m u v same quiet = ap (λ (z : Told). z.heap) quiet.same ∙ ap (λ (z : LoomMemory H host). heap_if (host.tells Work) (held (core_of z.pager.levels.parts) (disk_of host z.pager.levels.disk.host.now z.pager.levels.disk.rest)) z.ledger.next) same
 rested-whole {H} (Err f) host m u v same quiet = tt
 
 pub told-each : {T : Type 0} (P Q : Type 0) (r : Result T MemFault) → OnOk r Q → OnOk r (P → Q)

@@ -40,6 +40,8 @@ use Rattle.core_view.proofs.Core.{placed-used}
 use Rattle.core_view.specs.Steps.{IsAt}
 use Rattle.core_view.proofs.Words.{meant-short, set-same}
 use Rattle.leaf_lambda.specs.declared.parts.Parts.{Parts}
+use Rattle.leaf_lambda.specs.Whole.{IsWhole as AreWhole}
+use Rattle.loom_memory.proofs.OverLaws.{over_parts}
 use Rattle.leaf_lambda.specs.Parts.{core_of, IsParts, IsWithin}
 use Rattle.leaf_lambda.specs.Making.{HasBytes, InBytes, InMethod}
 use Rattle.method_cache.specs.Found.{found}
@@ -248,26 +250,26 @@ pub ref-name : (n k : ℕ) → is_ref n (Ref k) ≡ true → n ≡ k
 ref-name n k e = let on : eqb k n ≡ true = e in let it : k ≡ n = grind (arith, common_steps) in sym it
 
 -- an object with a body, without a mark, whose words change
-pub stored-is : {H : Type 0} (host : Ghosts H) (m : LoomMemory H) (q : Parts) (a : Access) (of s p : ℕ) → IsKept m.parts m.regs m.pinned m.ledger → IsParts q → IsWithin s (core_of m.parts) (core_of q) → place_of ((core_of m.parts).entries s).state ≡ Some p → place_of ((core_of q).entries s).state ≡ place_of ((core_of m.parts).entries s).state
-    → ((core_of q).entries s).name ≡ ((core_of m.parts).entries s).name → ((core_of m.parts).entries s).flags.marked ≡ false → stores a ≡ true → target_of a ≡ Some of → s ≡ word_in m.regs of
-    → (IsTrue (host.tells Work) → heap_if (host.tells Work) (held (core_of q) (disk_of host m.disk.host.now m.disk.rest)) m.ledger.next ≡ heap_after (heap_if (host.tells Work) (held (core_of m.parts) (disk_of host m.disk.host.now m.disk.rest)) m.ledger.next) (λ r. meant (core_of m.parts).entries [] 0 (word_in m.regs r)) a)
-    → IsStored (told_of host m.disk.host.now m.disk.rest (core_of m.parts) m.regs m.pinned m.ledger) (told_of host m.disk.host.now m.disk.rest (core_of q) m.regs m.pinned m.ledger) a
+pub stored-is : {H : Type 0} (host : Ghosts H) (m : LoomMemory H host) (q : Parts) (a : Access) (of s p : ℕ) → IsKept m.pager.levels.parts m.regs m.pager.pinned m.ledger → IsParts q → IsWithin s (core_of m.pager.levels.parts) (core_of q) → place_of ((core_of m.pager.levels.parts).entries s).state ≡ Some p → place_of ((core_of q).entries s).state ≡ place_of ((core_of m.pager.levels.parts).entries s).state
+    → ((core_of q).entries s).name ≡ ((core_of m.pager.levels.parts).entries s).name → ((core_of m.pager.levels.parts).entries s).flags.marked ≡ false → stores a ≡ true → target_of a ≡ Some of → s ≡ word_in m.regs of
+    → (IsTrue (host.tells Work) → heap_if (host.tells Work) (held (core_of q) (disk_of host m.pager.levels.disk.host.now m.pager.levels.disk.rest)) m.ledger.next ≡ heap_after (heap_if (host.tells Work) (held (core_of m.pager.levels.parts) (disk_of host m.pager.levels.disk.host.now m.pager.levels.disk.rest)) m.ledger.next) (λ r. meant (core_of m.pager.levels.parts).entries [] 0 (word_in m.regs r)) a)
+    → IsStored (told_of host m.pager.levels.disk.host.now m.pager.levels.disk.rest (core_of m.pager.levels.parts) m.regs m.pager.pinned m.ledger) (told_of host m.pager.levels.disk.host.now m.pager.levels.disk.rest (core_of q) m.regs m.pager.pinned m.ledger) a
 stored-is {H} host m q a of s p kept parts within at place name off is target word heap =
     let core = kept.parts.core in
-    let used = placed-used ((core_of m.parts).entries s).state p at in
-    let calm = store-calm m.pinned s p (core_of m.parts) (core_of q) core parts.core within at place name in
-    let same = cache-same (core_of m.parts) (core_of q) (found m.ledger.rows) m.ledger.mark m.ledger.begun core parts.core (within-marks (core_of m.parts) (core_of q) s core parts.core within) kept.cached in
-    let ref : meant (core_of m.parts).entries [] 0 (word_in m.regs of) ≡ Ref ((core_of m.parts).entries s).name = ap (meant (core_of m.parts).entries [] 0) (sym word) ∙ meant-short (core_of m.parts).entries [] 0 s (core.short s used) in
-    let regs : ℕ → Value = λ r. meant (core_of m.parts).entries [] 0 (word_in m.regs r) in
+    let used = placed-used ((core_of m.pager.levels.parts).entries s).state p at in
+    let calm = store-calm m.pager.pinned s p (core_of m.pager.levels.parts) (core_of q) core parts.core within at place name in
+    let same = cache-same (core_of m.pager.levels.parts) (core_of q) (found m.ledger.rows) m.ledger.mark m.ledger.begun core parts.core (within-marks (core_of m.pager.levels.parts) (core_of q) s core parts.core within) kept.cached in
+    let ref : meant (core_of m.pager.levels.parts).entries [] 0 (word_in m.regs of) ≡ Ref ((core_of m.pager.levels.parts).entries s).name = ap (meant (core_of m.pager.levels.parts).entries [] 0) (sym word) ∙ meant-short (core_of m.pager.levels.parts).entries [] 0 s (core.short s used) in
+    let regs : ℕ → Value = λ r. meant (core_of m.pager.levels.parts).entries [] 0 (word_in m.regs r) in
     record {
-      heap = heap_if (host.tells Work) (held (core_of q) (disk_of host m.disk.host.now m.disk.rest)) m.ledger.next;
+      heap = heap_if (host.tells Work) (held (core_of q) (disk_of host m.pager.levels.disk.host.now m.pager.levels.disk.rest)) m.ledger.next;
       bounds = (refl, refl, refl, omega arith, omega arith);
       counts = (refl, sym (add-zero m.ledger.made));
-      same = store-told host m.disk.host.now m.disk.rest (core_of m.parts) (core_of q) m.regs m.pinned m.ledger (kept-rooted m.parts m.regs m.pinned m.ledger kept) calm;
+      same = store-told host m.pager.levels.disk.host.now m.pager.levels.disk.rest (core_of m.pager.levels.parts) (core_of q) m.regs m.pager.pinned m.ledger (kept-rooted m.pager.levels.parts m.regs m.pager.pinned m.ledger kept) calm;
       cache = kept-cache (touched_by regs a) _ _ same
           (λ n touched.
-          let it : n ≡ ((core_of m.parts).entries s).name = ref-name n ((core_of m.parts).entries s).name (sym (touched-is regs a of n is target ∙ ap (is_ref n) ref) ∙ touched) in
-          ap (marked_of (core_of m.parts)) it ∙ marked-at (core_of m.parts) s core used ∙ off);
+          let it : n ≡ ((core_of m.pager.levels.parts).entries s).name = ref-name n ((core_of m.pager.levels.parts).entries s).name (sym (touched-is regs a of n is target ∙ ap (is_ref n) ref) ∙ touched) in
+          ap (marked_of (core_of m.pager.levels.parts)) it ∙ marked-at (core_of m.pager.levels.parts) s core used ∙ off);
       stored = heap;
     }
 
@@ -296,27 +298,27 @@ body-own h (Ref n) i v is = go (h.at n) refl is
     go (Some o) e is = ap (λ (b : Body). put_object h n (record { class = o.class; body = b })) (field-own o.body i v is) ∙ put-own h n o e
 
 -- an object with a body, without a mark, has this word in a field
-pub stored-own : {H : Type 0} (host : Ghosts H) (m : LoomMemory H) (of i from s p w : ℕ) → IsSound host m → IsAt (core_of m.parts) s p i w → w ≢ 0 → ((core_of m.parts).entries s).flags.marked ≡ false → s ≡ word_in m.regs of → w ≡ word_in m.regs from
+pub stored-own : {H : Type 0} (host : Ghosts H) (m : LoomMemory H host) (of i from s p w : ℕ) → IsSound host m → IsAt (core_of m.pager.levels.parts) s p i w → w ≢ 0 → ((core_of m.pager.levels.parts).entries s).flags.marked ≡ false → s ≡ word_in m.regs of → w ≡ word_in m.regs from
     → IsStored (loom_told host m) (loom_told host m) (SetField of i from)
 unfolding loom_told
 stored-own {H} host m of i from s p w sound at some off word same =
     let core = sound.kept.parts.core in
-    let used = placed-used ((core_of m.parts).entries s).state p at.place in
-    let ref : meant (core_of m.parts).entries [] 0 (word_in m.regs of) ≡ Ref ((core_of m.parts).entries s).name = ap (meant (core_of m.parts).entries [] 0) (sym word) ∙ meant-short (core_of m.parts).entries [] 0 s (core.short s used) in
-    let disk = disk_of host m.disk.host.now m.disk.rest in
-    let regs : ℕ → Value = λ r. meant (core_of m.parts).entries [] 0 (word_in m.regs r) in
+    let used = placed-used ((core_of m.pager.levels.parts).entries s).state p at.place in
+    let ref : meant (core_of m.pager.levels.parts).entries [] 0 (word_in m.regs of) ≡ Ref ((core_of m.pager.levels.parts).entries s).name = ap (meant (core_of m.pager.levels.parts).entries [] 0) (sym word) ∙ meant-short (core_of m.pager.levels.parts).entries [] 0 s (core.short s used) in
+    let disk = disk_of host m.pager.levels.disk.host.now m.pager.levels.disk.rest in
+    let regs : ℕ → Value = λ r. meant (core_of m.pager.levels.parts).entries [] 0 (word_in m.regs r) in
     record {
-      heap = heap_if (host.tells Work) (held (core_of m.parts) disk) m.ledger.next;
+      heap = heap_if (host.tells Work) (held (core_of m.pager.levels.parts) disk) m.ledger.next;
       bounds = (refl, refl, refl, omega arith, omega arith);
       counts = (refl, sym (add-zero m.ledger.made));
       same = refl;
       cache = kept-cache (touched_by regs (SetField of i from)) _ _ refl
           (λ n touched.
-          let it : n ≡ ((core_of m.parts).entries s).name = ref-name n ((core_of m.parts).entries s).name (sym (ap (is_ref n) ref) ∙ touched) in
-          ap (marked_of (core_of m.parts)) it ∙ marked-at (core_of m.parts) s core used ∙ off);
-      stored = λ told. sym (body-own (heap_if (host.tells Work) (held (core_of m.parts) disk) m.ledger.next) (regs of) i (regs from)
-          (field-told (host.tells Work) (core_of m.parts) disk m.ledger.next s p 0 of i w regs told core at some (ap (meant (core_of m.parts).entries [] 0) (sym word))
-          ∙ ap (λ (k : ℕ). Some (meant (core_of m.parts).entries [] 0 k)) same));
+          let it : n ≡ ((core_of m.pager.levels.parts).entries s).name = ref-name n ((core_of m.pager.levels.parts).entries s).name (sym (ap (is_ref n) ref) ∙ touched) in
+          ap (marked_of (core_of m.pager.levels.parts)) it ∙ marked-at (core_of m.pager.levels.parts) s core used ∙ off);
+      stored = λ told. sym (body-own (heap_if (host.tells Work) (held (core_of m.pager.levels.parts) disk) m.ledger.next) (regs of) i (regs from)
+          (field-told (host.tells Work) (core_of m.pager.levels.parts) disk m.ledger.next s p 0 of i w regs told core at some (ap (meant (core_of m.pager.levels.parts).entries [] 0) (sym word))
+          ∙ ap (λ (k : ℕ). Some (meant (core_of m.pager.levels.parts).entries [] 0 k)) same));
     }
 
 -- another body, as the access says it
@@ -331,26 +333,26 @@ body-told true x y disk now next n v o change told name there is =
 
 -- ---- marks go before it
 
-pub unmark-calm : {H : Type 0} (host : Ghosts H) (m : LoomMemory H) (q : Parts) → IsSound host m → IsUnmarking (core_of m.parts) (core_of q) → ((t : ℕ) → outside (core_of q) t ≡ outside (core_of m.parts) t) → LeavesMarks (core_of m.parts) (core_of q) → IsCalm m.pinned (core_of m.parts) (core_of q)
-unmark-calm {H} host m q sound step out marks = purged-calm m.pinned (core_of m.parts) (core_of q) (unmarked-purged m.pinned.a m.pinned.b m.pinned.d (core_of m.parts) (core_of q) step out) marks (unmarked-here (core_of m.parts) (core_of q) step)
+pub unmark-calm : {H : Type 0} (host : Ghosts H) (m : LoomMemory H host) (q : Parts) → IsSound host m → IsUnmarking (core_of m.pager.levels.parts) (core_of q) → ((t : ℕ) → outside (core_of q) t ≡ outside (core_of m.pager.levels.parts) t) → LeavesMarks (core_of m.pager.levels.parts) (core_of q) → IsCalm m.pager.pinned (core_of m.pager.levels.parts) (core_of q)
+unmark-calm {H} host m q sound step out marks = purged-calm m.pager.pinned (core_of m.pager.levels.parts) (core_of q) (unmarked-purged m.pager.pinned.a m.pager.pinned.b m.pager.pinned.d (core_of m.pager.levels.parts) (core_of q) step out) marks (unmarked-here (core_of m.pager.levels.parts) (core_of q) step)
 
-pub unmark-quiet : {H : Type 0} (host : Ghosts H) (m : LoomMemory H) (q : Parts) → IsSound host m → IsParts q → Stays (core_of m.parts) (core_of q) → IsCalm m.pinned (core_of m.parts) (core_of q)
-    → IsQuiet (told_of host m.disk.host.now m.disk.rest (core_of m.parts) m.regs m.pinned m.ledger) (told_of host m.disk.host.now m.disk.rest (core_of q) m.regs m.pinned m.ledger)
+pub unmark-quiet : {H : Type 0} (host : Ghosts H) (m : LoomMemory H host) (q : Parts) → IsSound host m → IsParts q → Stays (core_of m.pager.levels.parts) (core_of q) → IsCalm m.pager.pinned (core_of m.pager.levels.parts) (core_of q)
+    → IsQuiet (told_of host m.pager.levels.disk.host.now m.pager.levels.disk.rest (core_of m.pager.levels.parts) m.regs m.pager.pinned m.ledger) (told_of host m.pager.levels.disk.host.now m.pager.levels.disk.rest (core_of q) m.regs m.pager.pinned m.ledger)
 unmark-quiet {H} host m q sound parts stays calm =
-    quiet-is host m.disk.host.now m.disk.host.now m.disk.rest m.disk.rest (core_of m.parts) (core_of q) m.regs m.pinned m.ledger (kept-rooted m.parts m.regs m.pinned m.ledger sound.kept) parts.core sound.kept.cached calm (work-refl host m.disk.host.now) refl
-    (λ told. (stays (disk_of host m.disk.host.now m.disk.rest) (sound.over.backed told)).held)
+    quiet-is host m.pager.levels.disk.host.now m.pager.levels.disk.host.now m.pager.levels.disk.rest m.pager.levels.disk.rest (core_of m.pager.levels.parts) (core_of q) m.regs m.pager.pinned m.ledger (kept-rooted m.pager.levels.parts m.regs m.pager.pinned m.ledger sound.kept) parts.core sound.kept.cached calm (work-refl host m.pager.levels.disk.host.now) refl
+    (λ told. (stays (disk_of host m.pager.levels.disk.host.now m.pager.levels.disk.rest) (sound.over.backed told)).held)
 
-pub unmark-sound : {H : Type 0} (host : Ghosts H) (m : LoomMemory H) (q : Parts) → IsSound host m → IsParts q → Stays (core_of m.parts) (core_of q) → IsUnmarking (core_of m.parts) (core_of q) → IsCalm m.pinned (core_of m.parts) (core_of q) → q.segment ≡ m.parts.segment
-    → IsSound host (record m { parts = q })
+pub unmark-sound : {H : Type 0} (host : Ghosts H) (m : LoomMemory H host) (q : Parts) (whole : AreWhole q) → IsSound host m → IsParts q → Stays (core_of m.pager.levels.parts) (core_of q) → IsUnmarking (core_of m.pager.levels.parts) (core_of q) → IsCalm m.pager.pinned (core_of m.pager.levels.parts) (core_of q) → q.segment ≡ m.pager.levels.parts.segment
+    → IsSound host (over_parts m q whole)
 unfolding loom_told
-unmark-sound {H} host m q sound parts stays step calm segment = record {
-  kept = calm-kept m.parts q m.regs m.pinned m.ledger sound.kept calm parts (unmarked-tight (core_of m.parts) (core_of q) step sound.kept.tight) (ap size_of segment);
-  over = over-is host m.disk.host.now m.disk.host.now m.disk.rest m.disk.rest (core_of m.parts) (core_of q) m.ledger sound.over refl sound.over.stands
-      (λ told. let keeps = stays (disk_of host m.disk.host.now m.disk.rest) (sound.over.backed told) in record { backed = keeps.backed; held = keeps.held })
-      (λ told. let same = unmarked-fresh (core_of m.parts) (core_of q) step in omega arith);
+unmark-sound {H} host m q whole sound parts stays step calm segment = record {
+  kept = calm-kept m.pager.levels.parts q m.regs m.pager.pinned m.ledger sound.kept calm parts (unmarked-tight (core_of m.pager.levels.parts) (core_of q) step sound.kept.tight) (ap size_of segment);
+  over = over-is host m.pager.levels.disk.host.now m.pager.levels.disk.host.now m.pager.levels.disk.rest m.pager.levels.disk.rest (core_of m.pager.levels.parts) (core_of q) m.ledger sound.over refl sound.over.stands
+      (λ told. let keeps = stays (disk_of host m.pager.levels.disk.host.now m.pager.levels.disk.rest) (sound.over.backed told) in record { backed = keeps.backed; held = keeps.held })
+      (λ told. let same = unmarked-fresh (core_of m.pager.levels.parts) (core_of q) step in omega arith);
   soon = sound.soon;
-  exact = exact-counts host m.parts q m.disk.host.now m.disk.rest m.ledger.next sound.exact parts stays (unmarking-counts (core_of m.parts) (core_of q) step);
-  thin = thin-quiet host m (record m { parts = q }) sound.thin (λ on. on) (unmark-quiet host m q sound parts stays calm);
+  exact = exact-counts host m.pager.levels.parts q m.pager.levels.disk.host.now m.pager.levels.disk.rest m.ledger.next sound.exact parts stays (unmarking-counts (core_of m.pager.levels.parts) (core_of q) step);
+  thin = thin-quiet host m (over_parts m q whole) sound.thin (λ on. on) (unmark-quiet host m q sound parts stays calm);
 }
 
 -- ---- stores that are refused, for whatever access

@@ -1,7 +1,7 @@
 -- Two objects that aren't in the core change places: their records are exchanged.
 use Rattle.std.proofs.Common.{◌≡◌, ◌≢◌, ℕ, ◌<◌, ◌||◌, Bool, true, false, cond, eqb, List, [], Option, None, Some, is_some, Result, Ok, Err, IsTrue, refl, sym, ◌∙◌, ap, subst, add-zero, arith, ⊎_elim}
 use Rattle.std.proofs.lemmas.Grind.{common_steps}
-use Rattle.std.proofs.lemmas.Bool.{cases_eq, ne_eqb}
+use Rattle.std.proofs.lemmas.Bool.{cases_eq}
 use Rattle.std.proofs.Math.Path.{fun_ext}
 use Rattle.std.specs.Prelude.{IsSome, OnOk}
 use Rattle.std.specs.Option.{option_map_or}
@@ -35,7 +35,7 @@ use Rattle.core_view.specs.Counts.{marked_of}
 use Rattle.core_view.specs.Words.{meant, body_in}
 use Rattle.core_view.specs.Held.{Disk, fields_there, held, held_by, held_in}
 use Rattle.core_view.specs.Kept.{IsCore, IsBacked, IsBody, IsLike, IsValued}
-use Rattle.core_view.specs.Purge.{IsPurged}
+use Rattle.core_view.specs.Purge.{IsSameBody}
 use Rattle.core_view.specs.Room.{is_among}
 use Rattle.core_view.proofs.Core.{held-leaf, placed-used}
 use Rattle.core_view.proofs.Lists.{put-here, put-there}
@@ -43,6 +43,7 @@ use Rattle.leaf_lambda.specs.Parts.{core_of}
 use Rattle.purger.specs.declared.room.Pinned.{Pinned}
 use Rattle.purger.specs.Marks.{AreHere}
 use Rattle.purger.specs.Purge.{IsPurgeFault}
+use Rattle.purger.specs.Rounds.{KeepsAllBut}
 use Rattle.purger.proofs.MarkLaws.{marked-at}
 use Rattle.purger.proofs.RoomLaws.{some-of}
 use Rattle.loom_memory.specs.declared.memory.LoomMemory.{LoomMemory}
@@ -59,8 +60,8 @@ use Rattle.loom_memory.proofs.StoreLaws.{kept-cache, ref-name}
 
 -- ---- the entry of a register
 
-pub named-now : {H : Type 0} (host : Ghosts H) (m : LoomMemory H) (of s : ℕ) → IsSound host m → IsReady (loom_told host m) → IsRef ((loom_told host m).regs of) → s ≡ word_in m.regs of → IsNamed host m m of s
-named-now {H} host m of s sound ready ref same = named-then host m m of s sound sound.kept.parts.core ready ref same (still-calm m.pinned (core_of m.parts)) (quiet-same host m)
+pub named-now : {H : Type 0} (host : Ghosts H) (m : LoomMemory H host) (of s : ℕ) → IsSound host m → IsReady (loom_told host m) → IsRef ((loom_told host m).regs of) → s ≡ word_in m.regs of → IsNamed host m m of s
+named-now {H} host m of s sound ready ref same = named-then host m m of s sound sound.kept.parts.core ready ref same (still-calm m.pager.pinned (core_of m.pager.levels.parts)) (quiet-same host m)
 
 -- what no slot names isn't pinned
 not-pin : (c : Core) (pins : Pinned) (i s : ℕ) → i < SLOTS → s ≢ 0 → IsUnpinned (λ i. name_if c.entries (pin_in pins i)) (c.entries s).name → eqb s (pin_in pins i) ≡ false
@@ -198,41 +199,41 @@ clear-of c s n v core here on leaf name is =
     let same : n ≡ (c.entries s).name = ref-name n (c.entries s).name (ap (is_ref n) (sym name) ∙ is) in
     ap (marked_of c) same ∙ leaf-clear c s core here on leaf
 
-pub swapped-is : {H : Type 0} (host : Ghosts H) (m : LoomMemory H) (new : H) (now : DiskRest) (s t p q : ℕ) → IsSound host m → IsNamed host m m p s → IsNamed host m m q t → place_of ((core_of m.parts).entries s).state ≡ None → place_of ((core_of m.parts).entries t).state ≡ None
-    → IsWorkOnly host m.disk.host.now new → disk_room now ≡ disk_room m.disk.rest → (IsTrue (host.tells Work) → SwapsObjects host m.disk.host.now new m.disk.rest now ((core_of m.parts).entries s).name ((core_of m.parts).entries t).name)
-    → IsStored (told_of host m.disk.host.now m.disk.rest (core_of m.parts) m.regs m.pinned m.ledger) (told_of host new now (core_of m.parts) m.regs m.pinned m.ledger) (Swap p q)
+pub swapped-is : {H : Type 0} (host : Ghosts H) (m : LoomMemory H host) (new : H) (now : DiskRest) (s t p q : ℕ) → IsSound host m → IsNamed host m m p s → IsNamed host m m q t → place_of ((core_of m.pager.levels.parts).entries s).state ≡ None → place_of ((core_of m.pager.levels.parts).entries t).state ≡ None
+    → IsWorkOnly host m.pager.levels.disk.host.now new → disk_room now ≡ disk_room m.pager.levels.disk.rest → (IsTrue (host.tells Work) → SwapsObjects host m.pager.levels.disk.host.now new m.pager.levels.disk.rest now ((core_of m.pager.levels.parts).entries s).name ((core_of m.pager.levels.parts).entries t).name)
+    → IsStored (told_of host m.pager.levels.disk.host.now m.pager.levels.disk.rest (core_of m.pager.levels.parts) m.regs m.pager.pinned m.ledger) (told_of host new now (core_of m.pager.levels.parts) m.regs m.pager.pinned m.ledger) (Swap p q)
 unfolding loom_told
 swapped-is {H} host m new now s t p q sound one two leaf away work room swaps =
-    let put_ : (host.roles new Transcript).put ≡ (host.roles m.disk.host.now Transcript).put = ap (λ (r : RoleState). r.put) (work.others Transcript transcript-away) in
+    let put_ : (host.roles new Transcript).put ≡ (host.roles m.pager.levels.disk.host.now Transcript).put = ap (λ (r : RoleState). r.put) (work.others Transcript transcript-away) in
     let core = sound.kept.parts.core in
-    let regs : ℕ → Value = λ r. meant (core_of m.parts).entries [] 0 (word_in m.regs r) in
+    let regs : ℕ → Value = λ r. meant (core_of m.pager.levels.parts).entries [] 0 (word_in m.regs r) in
     record {
-      heap = heap_if (host.tells Work) (held (core_of m.parts) (disk_of host new now)) m.ledger.next;
-      same = λ i. record (told_of host new now (core_of m.parts) m.regs m.pinned m.ledger) { transcript = put_ i };
+      heap = heap_if (host.tells Work) (held (core_of m.pager.levels.parts) (disk_of host new now)) m.ledger.next;
+      same = λ i. record (told_of host new now (core_of m.pager.levels.parts) m.regs m.pager.pinned m.ledger) { transcript = put_ i };
       bounds = (refl, refl, room, work.later, (let said = work.other_faults Transcript transcript-away in omega arith));
       counts = (refl, sym (add-zero m.ledger.made));
       cache = kept-cache (touched_by regs (Swap p q)) _ _ refl (λ n touched. clear n (is_ref n (regs p)) refl touched);
-      stored = λ told. ap (λ (d : Disk). heap_if (host.tells Work) (held (core_of m.parts) d) m.ledger.next) (swaps told).objects
-          ∙ exchanged-told (host.tells Work) (core_of m.parts) (disk_of host m.disk.host.now m.disk.rest) m.ledger.next s t p q regs told core one.used two.used leaf away (one.has told) (two.has told) one.name two.name;
+      stored = λ told. ap (λ (d : Disk). heap_if (host.tells Work) (held (core_of m.pager.levels.parts) d) m.ledger.next) (swaps told).objects
+          ∙ exchanged-told (host.tells Work) (core_of m.pager.levels.parts) (disk_of host m.pager.levels.disk.host.now m.pager.levels.disk.rest) m.ledger.next s t p q regs told core one.used two.used leaf away (one.has told) (two.has told) one.name two.name;
     }
   where
-    clear : (n : ℕ) (b : Bool) → is_ref n (meant (core_of m.parts).entries [] 0 (word_in m.regs p)) ≡ b → b || is_ref n (meant (core_of m.parts).entries [] 0 (word_in m.regs q)) ≡ true → marked_of (core_of m.parts) n ≡ false
-    clear n true e on = clear-of (core_of m.parts) s n (meant (core_of m.parts).entries [] 0 (word_in m.regs p)) sound.kept.parts.core sound.kept.here one.used leaf one.name e
-    clear n false e on = clear-of (core_of m.parts) t n (meant (core_of m.parts).entries [] 0 (word_in m.regs q)) sound.kept.parts.core sound.kept.here two.used away two.name on
+    clear : (n : ℕ) (b : Bool) → is_ref n (meant (core_of m.pager.levels.parts).entries [] 0 (word_in m.regs p)) ≡ b → b || is_ref n (meant (core_of m.pager.levels.parts).entries [] 0 (word_in m.regs q)) ≡ true → marked_of (core_of m.pager.levels.parts) n ≡ false
+    clear n true e on = clear-of (core_of m.pager.levels.parts) s n (meant (core_of m.pager.levels.parts).entries [] 0 (word_in m.regs p)) sound.kept.parts.core sound.kept.here one.used leaf one.name e
+    clear n false e on = clear-of (core_of m.pager.levels.parts) t n (meant (core_of m.pager.levels.parts).entries [] 0 (word_in m.regs q)) sound.kept.parts.core sound.kept.here two.used away two.name on
 
-pub swapped-over : {H : Type 0} (host : Ghosts H) (m : LoomMemory H) (new : H) (now : DiskRest) (s t : ℕ) → IsSound host m → is_used ((core_of m.parts).entries s).state ≡ true → is_used ((core_of m.parts).entries t).state ≡ true → place_of ((core_of m.parts).entries s).state ≡ None → place_of ((core_of m.parts).entries t).state ≡ None
-    → disk_room now ≡ disk_room m.disk.rest → disk_held now ≡ disk_held m.disk.rest → (IsTrue (host.tells Work) → SwapsObjects host m.disk.host.now new m.disk.rest now ((core_of m.parts).entries s).name ((core_of m.parts).entries t).name)
-    → IsOver host new now (core_of m.parts) m.ledger
+pub swapped-over : {H : Type 0} (host : Ghosts H) (m : LoomMemory H host) (new : H) (now : DiskRest) (s t : ℕ) → IsSound host m → is_used ((core_of m.pager.levels.parts).entries s).state ≡ true → is_used ((core_of m.pager.levels.parts).entries t).state ≡ true → place_of ((core_of m.pager.levels.parts).entries s).state ≡ None → place_of ((core_of m.pager.levels.parts).entries t).state ≡ None
+    → disk_room now ≡ disk_room m.pager.levels.disk.rest → disk_held now ≡ disk_held m.pager.levels.disk.rest → (IsTrue (host.tells Work) → SwapsObjects host m.pager.levels.disk.host.now new m.pager.levels.disk.rest now ((core_of m.pager.levels.parts).entries s).name ((core_of m.pager.levels.parts).entries t).name)
+    → IsOver host new now (core_of m.pager.levels.parts) m.ledger
 swapped-over {H} host m new now s t sound on also leaf away room many swaps =
     let core = sound.kept.parts.core in
-    let disk = disk_of host m.disk.host.now m.disk.rest in
+    let disk = disk_of host m.pager.levels.disk.host.now m.pager.levels.disk.rest in
     record {
       stands = λ told. (swaps told).stands told;
-      backed = λ told. subst (λ (d : Disk). IsBacked (core_of m.parts) d) (sym (swaps told).objects) (exchanged-backed (core_of m.parts) disk s t core on also leaf away (sound.over.backed told));
+      backed = λ told. subst (λ (d : Disk). IsBacked (core_of m.pager.levels.parts) d) (sym (swaps told).objects) (exchanged-backed (core_of m.pager.levels.parts) disk s t core on also leaf away (sound.over.backed told));
       counted = λ told. let was = sound.over.counted told in omega (arith, was, many);
       roomy = let was = sound.over.roomy in omega (arith, was, room);
       based = subst (λ (n : ℕ). IsNumbered m.ledger.base m.ledger.made m.ledger.held m.ledger.next n) (sym room) sound.over.based;
-      valued = λ told. subst (λ (d : Disk). IsValued d) (sym (ap (held (core_of m.parts)) (swaps told).objects ∙ exchanged-held (core_of m.parts) disk s t core on also leaf away)) (exchanged-valued (held (core_of m.parts) disk) ((core_of m.parts).entries s).name ((core_of m.parts).entries t).name (sound.over.valued told));
+      valued = λ told. subst (λ (d : Disk). IsValued d) (sym (ap (held (core_of m.pager.levels.parts)) (swaps told).objects ∙ exchanged-held (core_of m.pager.levels.parts) disk s t core on also leaf away)) (exchanged-valued (held (core_of m.pager.levels.parts) disk) ((core_of m.pager.levels.parts).entries s).name ((core_of m.pager.levels.parts).entries t).name (sound.over.valued told));
     }
 
 -- ---- what the disk asks, and why it fails
@@ -274,41 +275,35 @@ swap-core t a b = go t.bounds
 -- ---- who is in the core then
 
 -- the object of a register, once it left
-away-gone : {H : Type 0} (host : Ghosts H) (m v : LoomMemory H) (of : ℕ) → IsSound host v → IsQuiet (loom_told host m) (loom_told host v) → IsRef ((loom_told host m).regs of) → IsAway v of → is_resident v (name_at ((loom_told host m).regs of)) ≡ false
+away-gone : {H : Type 0} (host : Ghosts H) (m v : LoomMemory H host) (of : ℕ) → IsSound host v → IsQuiet (loom_told host m) (loom_told host v) → IsRef ((loom_told host m).regs of) → IsAway v of → is_resident v (name_at ((loom_told host m).regs of)) ≡ false
 away-gone {H} host m v of sound quiet ref away =
     let same : (loom_told host v).regs of ≡ (loom_told host m).regs of = ap (λ (z : Told). z.regs of) quiet.same in
     ap (λ (w : Value). is_resident v (name_at w)) (sym same) ∙ resident-at host v of (word_in v.regs of) sound (subst IsRef (sym same) ref) refl ∙ ap (λ (o : Option ℕ). is_some o) away
 
 -- each other object stays
-pub left-others : {H : Type 0} (host : Ghosts H) (m u : LoomMemory H) (of s : ℕ) → IsSound host m → IsCore (core_of u.parts) → IsRef ((loom_told host m).regs of) → s ≡ word_in m.regs of → ((a b d : ℕ) → is_among a b d s ≡ false → IsPurged a b d (core_of m.parts) (core_of u.parts))
+pub left-others : {H : Type 0} (host : Ghosts H) (m u : LoomMemory H host) (of s : ℕ) → IsSound host m → IsCore (core_of u.pager.levels.parts) → IsRef ((loom_told host m).regs of) → s ≡ word_in m.regs of → KeepsAllBut s (core_of m.pager.levels.parts) (core_of u.pager.levels.parts)
     → (k : ℕ) → k ≢ name_at ((loom_told host m).regs of) → IsTrue (is_resident m k) → IsTrue (is_resident u k)
 unfolding is_resident
-left-others {H} host m u of s sound now ref same purged k away here = go ((core_of m.parts).find k) refl here
+left-others {H} host m u of s sound now ref same one k away here = go ((core_of m.pager.levels.parts).find k) refl here
   where
-    name : name_at ((loom_told host m).regs of) ≡ ((core_of m.parts).entries s).name
+    name : name_at ((loom_told host m).regs of) ≡ ((core_of m.pager.levels.parts).entries s).name
     name = ap name_at (entry-at host m of s sound ref same).name
 
-    apart : (t : ℕ) → t ≢ s → is_among t t t s ≡ false
-    apart t other = ap (λ (b : Bool). b || (b || b)) (ne_eqb s t (λ h. other (sym h)))
-
-    self : (t : ℕ) → is_among t t t t ≡ true
-    self t = grind (arith, common_steps)
-
-    go : (x : Option ℕ) → (core_of m.parts).find k ≡ x → has_body (core_of m.parts) x ≡ true → has_body (core_of u.parts) ((core_of u.parts).find k) ≡ true
+    go : (x : Option ℕ) → (core_of m.pager.levels.parts).find k ≡ x → has_body (core_of m.pager.levels.parts) x ≡ true → has_body (core_of u.pager.levels.parts) ((core_of u.pager.levels.parts).find k) ≡ true
     go None e here = absurd (cc)
     go (Some t) e here =
         let old = sound.kept.parts.core in
-        let body = some-of (place_of ((core_of m.parts).entries t).state) (is_some (place_of ((core_of m.parts).entries t).state)) refl here in
-        let other : t ≢ s = (λ h. away (sym (old.named k t e) ∙ ap (λ (q : ℕ). ((core_of m.parts).entries q).name) h ∙ sym name)) in
-        let stays = (purged t t t (apart t other)).pinned t body.0 (self t) body.1 in
-        let found : (core_of u.parts).find k ≡ Some t = ap (core_of u.parts).find (sym (stays.name ∙ old.named k t e)) ∙ now.found t (placed-used ((core_of u.parts).entries t).state stays.at stays.place) in
-        ap (λ (x : Option ℕ). has_body (core_of u.parts) x) found ∙ ap (λ (x : Option ℕ). is_some x) stays.place
+        let body = some-of (place_of ((core_of m.pager.levels.parts).entries t).state) (is_some (place_of ((core_of m.pager.levels.parts).entries t).state)) refl here in
+        let other : t ≢ s = (λ h. away (sym (old.named k t e) ∙ ap (λ (q : ℕ). ((core_of m.pager.levels.parts).entries q).name) h ∙ sym name)) in
+        let stays = ⊎_elim (λ (e : t ≡ s). absurd (other e)) (λ (x : IsSameBody (core_of m.pager.levels.parts) (core_of u.pager.levels.parts) t body.0). x) (one t body.0 body.1) in
+        let found : (core_of u.pager.levels.parts).find k ≡ Some t = ap (core_of u.pager.levels.parts).find (sym (stays.name ∙ old.named k t e)) ∙ now.found t (placed-used ((core_of u.pager.levels.parts).entries t).state stays.at stays.place) in
+        ap (λ (x : Option ℕ). has_body (core_of u.pager.levels.parts) x) found ∙ ap (λ (x : Option ℕ). is_some x) stays.place
 
 -- and after both, where their records were exchanged
-pub put-away : {T H : Type 0} (r : Result T MemFault) (host : Ghosts H) (m u v w : LoomMemory H) (a b : ℕ) → IsSound host v → IsQuiet (loom_told host m) (loom_told host u) → IsQuiet (loom_told host m) (loom_told host v)
+pub put-away : {T H : Type 0} (r : Result T MemFault) (host : Ghosts H) (m u v w : LoomMemory H host) (a b : ℕ) → IsSound host v → IsQuiet (loom_told host m) (loom_told host u) → IsQuiet (loom_told host m) (loom_told host v)
     → IsRef ((loom_told host m).regs a) → IsRef ((loom_told host m).regs b) → IsAway v a → IsAway v b
     → ((k : ℕ) → k ≢ name_at ((loom_told host m).regs a) → IsTrue (is_resident m k) → IsTrue (is_resident u k)) → ((k : ℕ) → k ≢ name_at ((loom_told host u).regs b) → IsTrue (is_resident u k) → IsTrue (is_resident v k))
-    → fetched u ≡ fetched m → fetched v ≡ fetched u → OnOk r (w.parts ≡ v.parts) → OnOk r (fetched w ≡ fetched v) → OnOk r (IsPutAway m w (name_at ((loom_told host m).regs a)) (name_at ((loom_told host m).regs b)))
+    → fetched u ≡ fetched m → fetched v ≡ fetched u → OnOk r (w.pager.levels.parts ≡ v.pager.levels.parts) → OnOk r (fetched w ≡ fetched v) → OnOk r (IsPutAway m w (name_at ((loom_told host m).regs a)) (name_at ((loom_told host m).regs b)))
 put-away {T} {H} (Ok x) host m u v w a b sound one both first second away-a away-b leaves stays count counts parts last =
     let name : name_at ((loom_told host u).regs b) ≡ name_at ((loom_told host m).regs b) = ap (λ (z : Told). name_at (z.regs b)) one.same in
     record {

@@ -81,15 +81,15 @@ text-run b c s p i count run core at is room each =
     run-of (text_at c s p) run i count (run-text b _ (text_at c s p) run i count (each (λ n. None) p at) (bytes-at c (λ n. None) s p 0 core at (first-of c s p is)) (omega arith)) (omega arith)
 
 -- an object that was loaded and has bytes says them
-pub text-loaded : {H : Type 0} (host : Ghosts H) (m : LoomMemory H) (of s : ℕ) → IsLoaded host m of s → ((core_of m.parts).entries s).kind ≡ kind.Bytes → IsText host m of s
+pub text-loaded : {H : Type 0} (host : Ghosts H) (m : LoomMemory H host) (of s : ℕ) → IsLoaded host m of s → ((core_of m.pager.levels.parts).entries s).kind ≡ kind.Bytes → IsText host m of s
 text-loaded {H} host m of s there bytes =
-    let e = (core_of m.parts).entries s in
+    let e = (core_of m.pager.levels.parts).entries s in
     record {
       at = there.at;
       place = there.place;
       kind = bytes;
-      says = λ told. part-here (loom_told host m) of (object_at (core_of m.parts) (disk_of host m.disk.host.now m.disk.rest) e there.at) text_of (Some (text_at (core_of m.parts) s there.at)) (there.object told)
-          (text-is (core_of m.parts).entries (fields_there (disk_of host m.disk.host.now m.disk.rest e.name)) ((core_of m.parts).chunks there.at).words e.kind e.len bytes);
+      says = λ told. part-here (loom_told host m) of (object_at (core_of m.pager.levels.parts) (disk_of host m.pager.levels.disk.host.now m.pager.levels.disk.rest) e there.at) text_of (Some (text_at (core_of m.pager.levels.parts) s there.at)) (there.object told)
+          (text-is (core_of m.pager.levels.parts).entries (fields_there (disk_of host m.pager.levels.disk.host.now m.pager.levels.disk.rest e.name)) ((core_of m.pager.levels.parts).chunks there.at).words e.kind e.len bytes);
     }
 
 -- the front of a buffer is as long as is asked for
@@ -99,7 +99,7 @@ front-long n buffer few long = length-take-of n buffer (omega arith)
 -- ---- pieces
 
 -- the bytes are there while they are said
-pub text-still : {H : Type 0} (host : Ghosts H) (m n : LoomMemory H) (of s k : ℕ) → IsText host m of s → n.parts ≡ m.parts → IsSaid (loom_told host m) (loom_told host n) of k → IsText host n of s
+pub text-still : {H : Type 0} (host : Ghosts H) (m n : LoomMemory H host) (of s k : ℕ) → IsText host m of s → n.pager.levels.parts ≡ m.pager.levels.parts → IsSaid (loom_told host m) (loom_told host n) of k → IsText host n of s
 text-still {H} host m n of s k text parts said = record {
   at = text.at;
   place = subst (λ (p : Parts). place_of ((core_of p).entries s).state ≡ Some text.at) (sym parts) text.place;

@@ -39,19 +39,23 @@ use Rattle.delta_counts.proofs.NumberLaws.{held-on_disk}
 use Rattle.purger.specs.declared.room.Pinned.{Pinned}
 use Rattle.purger.specs.Counts.{StandsFor}
 use Rattle.purger.specs.Purge.{IsPurgeFault, IsReadFault}
+use Rattle.purger.specs.declared.pager.Pager.{Pager}
+use Rattle.purger.specs.Freeing.{FreesAll, LeavesNamed, ThinsHeap}
 use Rattle.purger.specs.Draining.{AreNamed, DrainsDead, IsDrainedOf, KeepsHeld, LeavesRest}
 use Rattle.purger.proofs.SoundLaws.{core-at, disk-at, sound-backed}
+use Rattle.purger.proofs.ThinLaws.{thinned-number}
 use Rattle.object_memory.specs.Told.{Told, is_root}
 use Rattle.object_memory.specs.declared.fault.MemFault.{MemFault}
 use Rattle.object_memory.specs.Contract.{LeavesAll}
 use Rattle.loom_memory.specs.declared.ledger.Ledger.{Ledger}
-use Rattle.loom_memory.specs.Memory.{word_in, pin_in, name_if, heap_if, told_of, IsCalm, IsExact, IsKept, IsOver, IsPinned, IsRefusalOf, IsStillNamed, NothingDead}
+use Rattle.loom_memory.specs.Memory.{word_in, pin_in, name_if, heap_if, told_of, IsCalm, IsExact, IsKept, IsOver, IsPinned, IsRefusalOf, IsSound, IsStillNamed, NothingDead}
+use Rattle.loom_memory.specs.declared.memory.LoomMemory.{LoomMemory}
 use Rattle.loom_memory.specs.Makings.{HasKept, HasThinned}
 use Rattle.loom_memory.specs.Numbers.{IsNumbered}
 use Rattle.loom_memory.proofs.BringLaws.{ref-short}
 use Rattle.loom_memory.proofs.CacheLaws.{cache-left}
 use Rattle.loom_memory.proofs.CalmLaws.{calm-kept, calm-regs, calm-slots, purged-calm, transcript-away}
-use Rattle.loom_memory.proofs.ExactLaws.{levels-told}
+use Rattle.loom_memory.proofs.ExactLaws.{exact-has, levels-told}
 use Rattle.loom_memory.proofs.RegLaws.{IsRooted, count-append, kept-rooted, register-held, word-there}
 use Rattle.loom_memory.proofs.RootLaws.{free-told, kept-again, kept-told}
 
@@ -171,9 +175,10 @@ pub record IsThinStep {H : Type 0} (host : Ghosts H) (p q : Parts) (was now : H)
   pub work : IsWorkOnly host was now
   pub limit : disk_room rest ≡ disk_room before
 
-pub thin-step : {H : Type 0} (host : Ghosts H) (p q : Parts) (was now : H) (before rest : DiskRest) (regs : List ℕ) (pins : Pinned) (k : Ledger) → IsKept p regs pins k → IsExact host p was before k.next [] → LeavesRest p q → (IsTrue (host.tells Work) → DrainsDead host p was before q now rest)
-    → IsWorkOnly host was now → disk_room rest ≡ disk_room before → IsThinStep host p q was now before rest regs pins k
-thin-step host p q was now before rest regs pins k kept exact leaves drained work limit = record { kept = kept; exact = exact; leaves = leaves; drained = drained; work = work; limit = limit }
+-- what freeing leaves of a memory
+pub thin-freed : {H : Type 0} (host : Ghosts H) (m : LoomMemory H host) (p : Pager H host) → IsSound host m → LeavesNamed m.pager p → (IsTrue (host.tells Work) → FreesAll m.pager p)
+    → IsThinStep host m.pager.levels.parts p.levels.parts m.pager.levels.disk.host.now p.levels.disk.host.now m.pager.levels.disk.rest p.levels.disk.rest m.regs m.pager.pinned m.ledger
+thin-freed host m p sound leaves drained = record { kept = sound.kept; exact = sound.exact; leaves = leaves.rest; drained = drained; work = leaves.disk.work; limit = leaves.disk.limit }
 
 step-calm : {H : Type 0} (host : Ghosts H) (p q : Parts) (was now : H) (before rest : DiskRest) (regs : List ℕ) (pins : Pinned) (k : Ledger) → IsThinStep host p q was now before rest regs pins k → IsCalm pins (core_of p) (core_of q)
 step-calm host p q was now before rest regs pins k x = thin-calm p q regs pins (kept-rooted p regs pins k x.kept) x.leaves
@@ -328,3 +333,9 @@ lost-sound f r x P is same = subst (λ (y : MemFault). LeavesAll y P) (sym same)
     go (fault.Work count) e = subst (λ (y : MemFault). LeavesAll y P) (sym e) tt
     go (fault.Full held_ room) e = subst (λ (y : MemFault). LeavesAll y P) (sym e) tt
     go (fault.Damaged place about) e = subst (λ (y : MemFault). LeavesAll y P) (sym e) tt
+
+-- and no more is held
+pub fewer-held : {H : Type 0} (host : Ghosts H) (m : LoomMemory H host) (p : Pager H host) → IsSound host m → ThinsHeap m.pager p → IsTrue (host.tells Work)
+    → disk_held p.levels.disk.rest + fresh_of (core_of p.levels.parts) ≤ disk_held m.pager.levels.disk.rest + fresh_of (core_of m.pager.levels.parts)
+fewer-held host m p sound thins told = thinned-number host m.pager.levels.parts p.levels.parts m.pager.levels.disk.host.now p.levels.disk.host.now m.pager.levels.disk.rest p.levels.disk.rest
+    (exact-has host m.pager.levels.parts m.pager.levels.disk.host.now m.pager.levels.disk.rest m.ledger.next sound.exact) told (thins.keeps told)

@@ -1,5 +1,6 @@
 -- Names that are below the next one, as the name of each object is. What a record holds is tested for it when the record is read.
 use Rattle.std.specs.Prelude.{◌≡◌, ℕ, ◌<◌, true}
+use Rattle.loom_host.specs.declared.outside.Host.{Ghosts}
 use Rattle.long_names.specs.declared.value.Value.{Value}
 use Rattle.long_names.specs.declared.value.Value.TheVariants.{Ref}
 use Rattle.long_names.specs.declared.object.Object.{Object}
@@ -17,7 +18,7 @@ abbrev pub HoldsBelow : ℕ → Object → Type 0
 HoldsBelow next o = (n : ℕ) → holds o n ≡ true → n < next
 
 -- the buffer has the record of a name, and each name in it is below the next one
-pub record IsTested {H : Type 0} (m : LoomMemory H) (name : ℕ) : Type 0 where
+pub record IsTested {H : Type 0} {host : Ghosts H} (m : LoomMemory H host) (name : ℕ) : Type 0 where
   pub record_there : HasRecord m.buf
   pub named : (raw_of m.buf).name ≡ name
   pub below : HoldsBelow m.ledger.next (object_in (raw_of m.buf))

@@ -7,9 +7,8 @@ use Rattle.loom_host.specs.declared.outside.Role.TheVariants.{Work}
 use Rattle.object_table.specs.Entries.{place_of}
 use Rattle.disk_objects.specs.Function.{disk_of}
 use Rattle.core_view.specs.Held.{object_at}
-use Rattle.leaf_lambda.specs.Parts.{core_of}
 use Rattle.loom_memory.specs.declared.memory.LoomMemory.{LoomMemory}
-use Rattle.loom_memory.specs.Memory.{loom_told}
+use Rattle.loom_memory.specs.Memory.{loom_told, loom_core, loom_now, loom_rest}
 
 -- an access that only reads its object, and fills no register
 abbrev pub is_read : Access → Bool
@@ -24,8 +23,8 @@ is_read _ = false
 
 -- The entry of a register's object has a body, and where the heap is told, what the heap has under the register's name is what that body
 -- means.
-pub record IsLoaded {H : Type 0} (host : Ghosts H) (m : LoomMemory H) (of s : ℕ) : Type 0 where
+pub record IsLoaded {H : Type 0} (host : Ghosts H) (m : LoomMemory H host) (of s : ℕ) : Type 0 where
   pub at : ℕ
-  pub place : place_of ((core_of m.parts).entries s).state ≡ Some at
+  pub place : place_of ((loom_core m).entries s).state ≡ Some at
   pub object : IsTrue (host.tells Work) → object_of_value (loom_told host m).heap ((loom_told host m).regs of)
-      ≡ Some (object_at (core_of m.parts) (disk_of host m.disk.host.now m.disk.rest) ((core_of m.parts).entries s) at)
+      ≡ Some (object_at (loom_core m) (disk_of host (loom_now m) (loom_rest m)) ((loom_core m).entries s) at)

@@ -12,7 +12,7 @@ use Rattle.object_memory.specs.Told.{Told, is_root}
 use Rattle.purger.specs.Purge.{HasRoom}
 use Rattle.loom_memory.specs.declared.load.TheConstants.{SPARE_ENTRIES}
 use Rattle.loom_memory.specs.declared.memory.LoomMemory.{LoomMemory}
-use Rattle.loom_memory.specs.Memory.{loom_told, pin_in, word_in}
+use Rattle.loom_memory.specs.Memory.{loom_told, pin_in, word_in, loom_parts, loom_pins}
 use Rattle.loom_memory.specs.Residents.{is_resident}
 use Rattle.loom_memory.specs.Thinned.{KeepsThinned, StaysThinned}
 
@@ -21,15 +21,15 @@ abbrev pub IsAlive : Told → Type 0
 IsAlive t = IsTrue t.tells → kept t.heap (is_root t) ≡ t.heap
 
 -- Where so many words and entries weren't free, and the next name had come to that from which on what is dead is looked for, nothing is dead.
-abbrev pub IsFreed : {H : Type 0} → Ghosts H → LoomMemory H → LoomMemory H → ℕ → ℕ → Type 0
-IsFreed host old new words entries = (HasRoom old.parts words entries → ⊥) → old.due ≤ old.ledger.next → IsAlive (loom_told host new)
+abbrev pub IsFreed : {H : Type 0} (host : Ghosts H) → LoomMemory H host → LoomMemory H host → ℕ → ℕ → Type 0
+IsFreed host old new words entries = (HasRoom (loom_parts old) words entries → ⊥) → old.due ≤ old.ledger.next → IsAlive (loom_told host new)
 
 -- The next search isn't put off; or nothing is dead, since that was looked for.
-abbrev pub IsOnTime : {H : Type 0} → Ghosts H → LoomMemory H → LoomMemory H → Type 0
+abbrev pub IsOnTime : {H : Type 0} (host : Ghosts H) → LoomMemory H host → LoomMemory H host → Type 0
 IsOnTime host old new = (new.due ≤ old.due) ⊎ IsAlive (loom_told host new)
 
 -- The object of a name was reached.
-pub record IsFreedFor {H : Type 0} (host : Ghosts H) (old new : LoomMemory H) (n : ℕ) : Type 0 where
+pub record IsFreedFor {H : Type 0} (host : Ghosts H) (old new : LoomMemory H host) (n : ℕ) : Type 0 where
   -- Where it came in, 27 entries and the words that it takes weren't free before, and what is dead was to be looked for, nothing is dead.
   pub gone : IsTrue (host.tells Work) → is_resident old n ≡ false → IsFreed host old new (words_at (loom_told host old).heap n) SPARE_ENTRIES
   pub due : IsOnTime host old new
@@ -45,34 +45,34 @@ pub record IsDoneOfLiving (old new : Told) (a : Access) : Type 0 where
 
 -- Behind an access it is said still that nothing is dead, where no word went, or the core names what the word of a register or a slot named. Of
 -- fields that are stored into `stays` of `set_field` says it.
-abbrev pub StaysBy : {H : Type 0} → LoomMemory H → LoomMemory H → Access → Type 0
+abbrev pub StaysBy : {H : Type 0} {host : Ghosts H} → LoomMemory H host → LoomMemory H host → Access → Type 0
 StaysBy old new (Known to name) = StaysThinned old new (word_in old.regs to)
 StaysBy old new (Class to of) = StaysThinned old new (word_in old.regs to)
 StaysBy old new (Field to of i) = StaysThinned old new (word_in old.regs to)
-StaysBy old new (Pin slot of) = StaysThinned old new (pin_in old.pinned slot)
+StaysBy old new (Pin slot of) = StaysThinned old new (pin_in (loom_pins old) slot)
 StaysBy old new (SetField of i from) = Unit {0}
 StaysBy old new (Make to class what) = Unit {0}
 StaysBy old new (Swap a b) = Unit {0}
 StaysBy old new _ = KeepsThinned old new
 
 -- An access was done to the object of a name.
-pub record IsFreedBy {H : Type 0} (host : Ghosts H) (old new : LoomMemory H) (n : ℕ) (a : Access) : Type 0 where
+pub record IsFreedBy {H : Type 0} (host : Ghosts H) (old new : LoomMemory H host) (n : ℕ) (a : Access) : Type 0 where
   -- Where it came in, 27 entries and the words that it takes weren't free before, and what is dead was to be looked for, the access was done to a
   -- heap in which nothing is dead.
-  pub gone : IsTrue (host.tells Work) → is_resident old n ≡ false → (HasRoom old.parts (words_at (loom_told host old).heap n) SPARE_ENTRIES → ⊥) → old.due ≤ old.ledger.next → IsDoneOfLiving (loom_told host old) (loom_told host new) a
+  pub gone : IsTrue (host.tells Work) → is_resident old n ≡ false → (HasRoom (loom_parts old) (words_at (loom_told host old).heap n) SPARE_ENTRIES → ⊥) → old.due ≤ old.ledger.next → IsDoneOfLiving (loom_told host old) (loom_told host new) a
   -- The next search isn't put off; or it was done to such a heap.
   pub due : IsTrue (host.tells Work) → (new.due ≤ old.due) ⊎ IsDoneOfLiving (loom_told host old) (loom_told host new) a
   pub stays : StaysBy old new a
 
 -- An access asked for 27 entries. Where they weren't free before, and what is dead was to be looked for, it was done to a heap in which nothing is
 -- dead.
-abbrev pub IsFreedShort : {H : Type 0} → Ghosts H → LoomMemory H → LoomMemory H → Access → Type 0
-IsFreedShort host old new a = IsTrue (host.tells Work) → (HasRoom old.parts 0 SPARE_ENTRIES → ⊥) → old.due ≤ old.ledger.next → IsDoneOfLiving (loom_told host old) (loom_told host new) a
+abbrev pub IsFreedShort : {H : Type 0} (host : Ghosts H) → LoomMemory H host → LoomMemory H host → Access → Type 0
+IsFreedShort host old new a = IsTrue (host.tells Work) → (HasRoom (loom_parts old) 0 SPARE_ENTRIES → ⊥) → old.due ≤ old.ledger.next → IsDoneOfLiving (loom_told host old) (loom_told host new) a
 
 -- An object was made.
-pub record IsFreedMaking {H : Type 0} (host : Ghosts H) (old new : LoomMemory H) (to class : ℕ) (what : Making) : Type 0 where
+pub record IsFreedMaking {H : Type 0} (host : Ghosts H) (old new : LoomMemory H host) (to class : ℕ) (what : Making) : Type 0 where
   -- Where 27 entries and the words that it takes weren't free before, and what is dead was to be looked for, it was made in a heap in which nothing
   -- is dead.
-  pub gone : IsTrue (host.tells Work) → (HasRoom old.parts (4 + body_words (body_made what)) SPARE_ENTRIES → ⊥) → old.due ≤ old.ledger.next → IsDoneOfLiving (loom_told host old) (loom_told host new) (Make to class what)
+  pub gone : IsTrue (host.tells Work) → (HasRoom (loom_parts old) (4 + body_words (body_made what)) SPARE_ENTRIES → ⊥) → old.due ≤ old.ledger.next → IsDoneOfLiving (loom_told host old) (loom_told host new) (Make to class what)
   -- The next search isn't put off; or it was made in such a heap.
   pub due : IsTrue (host.tells Work) → (new.due ≤ old.due) ⊎ IsDoneOfLiving (loom_told host old) (loom_told host new) (Make to class what)

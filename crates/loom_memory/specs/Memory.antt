@@ -73,6 +73,27 @@ abbrev pub heap_if : Bool → Disk → ℕ → Heap
 heap_if true at next = record { at = at; next = next }
 heap_if false at next = record { at = λ n. None; next = 0 }
 
+-- ---- its parts, the words of the pinned three, the core, the host as it is, and what is known of the disk
+
+abbrev pub loom_parts : {H : Type 0} {host : Ghosts H} → LoomMemory H host → Parts
+loom_parts m = m.pager.levels.parts
+
+abbrev pub loom_pins : {H : Type 0} {host : Ghosts H} → LoomMemory H host → Pinned
+loom_pins m = m.pager.pinned
+
+abbrev pub loom_core : {H : Type 0} {host : Ghosts H} → LoomMemory H host → Core
+loom_core m = core_of m.pager.levels.parts
+
+abbrev pub loom_now : {H : Type 0} {host : Ghosts H} → LoomMemory H host → H
+loom_now m = m.pager.levels.disk.host.now
+
+abbrev pub loom_rest : {H : Type 0} {host : Ghosts H} → LoomMemory H host → DiskRest
+loom_rest m = m.pager.levels.disk.rest
+
+-- the name of the loan by which it holds its host
+abbrev pub loom_lender : {H : Type 0} {host : Ghosts H} → LoomMemory H host → ℕ
+loom_lender m = m.pager.levels.disk.host.ghost_name
+
 -- what is told of a core over a disk
 abbrev pub told_of : {H : Type 0} → Ghosts H → H → DiskRest → Core → List ℕ → Pinned → Ledger → Told
 told_of host now rest c regs pins k = record {
@@ -88,8 +109,8 @@ told_of host now rest c regs pins k = record {
   bounds = Some (record { core = k.core; entries = k.entries; room = disk_room rest; base = k.base; made = k.made; work_faults = host.faults now Work; said_faults = host.faults now Transcript });
 }
 
-unfoldable pub loom_told : {H : Type 0} → Ghosts H → LoomMemory H → Told
-loom_told host m = told_of host m.disk.host.now m.disk.rest (core_of m.parts) m.regs m.pinned m.ledger
+unfoldable pub loom_told : {H : Type 0} (host : Ghosts H) → LoomMemory H host → Told
+loom_told host m = told_of host (loom_now m) (loom_rest m) (loom_core m) m.regs (loom_pins m) m.ledger
 
 -- a slot's word is 0, or names an entry with a body
 abbrev pub IsPinned : Core → ℕ → Type 0
@@ -137,22 +158,22 @@ abbrev pub IsNamedIn : Core → ℕ → Type 0
 IsNamedIn c w = (is_known (c.entries w).name ≡ true) ⊎ (1 ≤ (c.entries w).refs)
 
 -- where a memory is thinned, nothing is dead
-unfoldable pub IsThin : {H : Type 0} → Ghosts H → LoomMemory H → Type 0
+unfoldable pub IsThin : {H : Type 0} (host : Ghosts H) → LoomMemory H host → Type 0
 IsThin host m = m.thinned ≡ true → NothingDead (loom_told host m)
 
-pub record IsSound {H : Type 0} (host : Ghosts H) (m : LoomMemory H) : Type 0 where
-  pub kept : IsKept m.parts m.regs m.pinned m.ledger
-  pub over : IsOver host m.disk.host.now m.disk.rest (core_of m.parts) m.ledger
-  pub exact : IsExact host m.parts m.disk.host.now m.disk.rest m.ledger.next []
+pub record IsSound {H : Type 0} (host : Ghosts H) (m : LoomMemory H host) : Type 0 where
+  pub kept : IsKept (loom_parts m) m.regs (loom_pins m) m.ledger
+  pub over : IsOver host (loom_now m) (loom_rest m) (loom_core m) m.ledger
+  pub exact : IsExact host (loom_parts m) (loom_now m) (loom_rest m) m.ledger.next []
   -- From this name on, what is dead is looked for where room is short. It is at most so many names on, and each making takes every second one.
   pub soon : m.due ≤ m.ledger.next + m.ledger.entries / 8
   pub thin : IsThin host m
 
 -- while these words are owed
-pub record IsOwing {H : Type 0} (host : Ghosts H) (m : LoomMemory H) (owed : List Value) : Type 0 where
-  pub kept : IsKept m.parts m.regs m.pinned m.ledger
-  pub over : IsOver host m.disk.host.now m.disk.rest (core_of m.parts) m.ledger
-  pub exact : IsExact host m.parts m.disk.host.now m.disk.rest m.ledger.next owed
+pub record IsOwing {H : Type 0} (host : Ghosts H) (m : LoomMemory H host) (owed : List Value) : Type 0 where
+  pub kept : IsKept (loom_parts m) m.regs (loom_pins m) m.ledger
+  pub over : IsOver host (loom_now m) (loom_rest m) (loom_core m) m.ledger
+  pub exact : IsExact host (loom_parts m) (loom_now m) (loom_rest m) m.ledger.next owed
 
 -- What is outside: the roles that this memory has nothing to do with, and their faults; and of Work all but its contents, where that is told.
 pub record Others : Type 0 where
@@ -168,12 +189,8 @@ others_of told Work s n = record { role = file_of told s; faults = 0 }
 others_of told Transcript s n = record { role = at_start; faults = 0 }
 others_of told r s n = record { role = s; faults = n }
 
-unfoldable pub loom_outside : {H : Type 0} → Ghosts H → LoomMemory H → Role → Others
-loom_outside host m r = others_of (host.tells Work) r (host.roles m.disk.host.now r) (host.faults m.disk.host.now r)
-
--- the name of the loan by which it holds its host
-abbrev pub loom_lender : {H : Type 0} → LoomMemory H → ℕ
-loom_lender m = m.disk.host.ghost_name
+unfoldable pub loom_outside : {H : Type 0} (host : Ghosts H) → LoomMemory H host → Role → Others
+loom_outside host m r = others_of (host.tells Work) r (host.roles (loom_now m) r) (host.faults (loom_now m) r)
 
 -- an entry has a body, and its name
 pub record IsStill (old new : Core) (s : ℕ) : Type 0 where
@@ -203,8 +220,8 @@ pub record IsMarking (old new : Told) (n : ℕ) : Type 0 where
   pub cache : IsKeptCache no_names old.cache (with_mark old.cache (Some n)) new.cache
 
 -- the method cache has the value of a register for the pair of two others
-pub record IsRemembered {H : Type 0} (m : LoomMemory H) (class selector method : ℕ) : Type 0 where
-  pub lives : has_mark (core_of m.parts) m.ledger.mark ≡ true
+pub record IsRemembered {H : Type 0} {host : Ghosts H} (m : LoomMemory H host) (class selector method : ℕ) : Type 0 where
+  pub lives : has_mark (loom_core m) m.ledger.mark ≡ true
   pub row : found m.ledger.rows (word_in m.regs class) (word_in m.regs selector) ≡ Some (word_in m.regs method)
 
 -- the words that the objects of the slots take beside one that isn't there

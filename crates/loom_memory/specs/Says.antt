@@ -9,9 +9,8 @@ use Rattle.loom_host.specs.declared.outside.Role.TheVariants.{Work}
 use Rattle.object_table.specs.Entries.{place_of}
 use Rattle.core_view.specs.Core.{Core}
 use Rattle.core_view.specs.Words.{bytes_in}
-use Rattle.leaf_lambda.specs.Parts.{core_of}
 use Rattle.loom_memory.specs.declared.memory.LoomMemory.{LoomMemory}
-use Rattle.loom_memory.specs.Memory.{loom_told}
+use Rattle.loom_memory.specs.Memory.{loom_told, loom_core, loom_now, loom_parts}
 
 -- the first k bytes of the object of a register joined the transcript
 pub record HasSaid (t u : Told) (of k : ℕ) : Type 0 where
@@ -39,17 +38,17 @@ abbrev pub text_at : Core → ℕ → ℕ → List ℕ
 text_at c s at = take (c.entries s).len (bytes_in (c.chunks at).words)
 
 -- the object of a register is in the core, has bytes, and says them
-pub record IsText {H : Type 0} (host : Ghosts H) (m : LoomMemory H) (of s : ℕ) : Type 0 where
+pub record IsText {H : Type 0} (host : Ghosts H) (m : LoomMemory H host) (of s : ℕ) : Type 0 where
   pub at : ℕ
-  pub place : place_of ((core_of m.parts).entries s).state ≡ Some at
-  pub kind : ((core_of m.parts).entries s).kind ≡ kind.Bytes
-  pub says : IsTrue (host.tells Work) → said_by (loom_told host m).heap (loom_told host m).regs (Say of) ≡ Some (text_at (core_of m.parts) s at)
+  pub place : place_of ((loom_core m).entries s).state ≡ Some at
+  pub kind : ((loom_core m).entries s).kind ≡ kind.Bytes
+  pub says : IsTrue (host.tells Work) → said_by (loom_told host m).heap (loom_told host m).regs (Say of) ≡ Some (text_at (loom_core m) s at)
 
 -- nothing was done but with the transcript
-pub record IsSpeech {H : Type 0} (host : Ghosts H) (old new : LoomMemory H) : Type 0 where
-  pub parts : new.parts ≡ old.parts
+pub record IsSpeech {H : Type 0} (host : Ghosts H) (old new : LoomMemory H host) : Type 0 where
+  pub parts : loom_parts new ≡ loom_parts old
   pub ledger : new.ledger ≡ old.ledger
   pub due : new.due ≡ old.due
   pub thinned : new.thinned ≡ old.thinned
-  pub work : host.roles new.disk.host.now Work ≡ host.roles old.disk.host.now Work
-  pub writes : host.writes new.disk.host.now ≡ host.writes old.disk.host.now
+  pub work : host.roles (loom_now new) Work ≡ host.roles (loom_now old) Work
+  pub writes : host.writes (loom_now new) ≡ host.writes (loom_now old)

@@ -1,5 +1,6 @@
 -- What a store leaves of what is told.
 use Rattle.std.specs.Prelude.{◌≡◌, ℕ, None, IsTrue}
+use Rattle.loom_host.specs.declared.outside.Host.{Ghosts}
 use Rattle.long_names.specs.Heap.{Heap}
 use Rattle.long_names.specs.Access.{Access, heap_after}
 use Rattle.object_memory.specs.Told.{Told}
@@ -9,9 +10,8 @@ use Rattle.core_view.specs.Core.{Core}
 use Rattle.core_view.specs.Counts.{outside}
 use Rattle.core_view.specs.Kept.{Stays}
 use Rattle.counted_core.specs.Steps.{with_change}
-use Rattle.leaf_lambda.specs.Parts.{core_of}
 use Rattle.loom_memory.specs.declared.memory.LoomMemory.{LoomMemory}
-use Rattle.loom_memory.specs.Memory.{word_in}
+use Rattle.loom_memory.specs.Memory.{word_in, loom_core}
 
 -- changes of counts differ in entries, and nothing else does
 pub record IsRecount (old new : Core) : Type 0 where
@@ -32,5 +32,5 @@ pub record IsStored (t u : Told) (a : Access) : Type 0 where
   pub stored : IsTrue t.tells → heap ≡ heap_after t.heap t.regs a
 
 -- the object of a register has no body in the core
-abbrev pub IsAway : {H : Type 0} → LoomMemory H → ℕ → Type 0
-IsAway m of = place_of ((core_of m.parts).entries (word_in m.regs of)).state ≡ None
+abbrev pub IsAway : {H : Type 0} {host : Ghosts H} → LoomMemory H host → ℕ → Type 0
+IsAway m of = place_of ((loom_core m).entries (word_in m.regs of)).state ≡ None

@@ -9,6 +9,7 @@ ghost use Rattle.loom_memory.specs.Beginning.{HasEmptyCore, IsEmptyCore};
 
 use crate::ledger::Ledger;
 use crate::memory::LoomMemory;
+use delta_counts::TwoLevels;
 use disk_objects::DiskObjects;
 use leaf_lambda::Parts;
 use long_names::REGISTERS;
@@ -16,7 +17,7 @@ use loom_host::Host;
 use method_cache::Cache;
 use object_record::RecordBuf;
 use object_table::laws::entries_are_counted;
-use purger::Pinned;
+use purger::{Pager, Pinned};
 use std::alloc::{AllocError, Global};
 
 // An empty core.
@@ -56,7 +57,7 @@ impl CoreTables {
 
 impl<'h, H: Host> LoomMemory<'h, H> {
     ghost use Rattle.object_memory.specs.Told.{IsReady};
-    ghost use Rattle.loom_memory.specs.Memory.{loom_told, loom_lender, IsSound};
+    ghost use Rattle.loom_memory.specs.Memory.{loom_told, loom_lender, loom_now, IsSound};
     ghost use Rattle.loom_memory.specs.Beginning.{HasLoaded, IsFirst, IsLoaded};
     ghost use Rattle.loom_memory.specs.Residents.{is_resident, fetched};
 
@@ -75,19 +76,23 @@ impl<'h, H: Host> LoomMemory<'h, H> {
         ensures heap { IsTrue (H.tells Work) → (h : Heap) → IsLoaded H.Host disk.entry.host.now disk.entry.rest h → h.next ≡ next → (loom_told H.Host result).heap ≡ h }
         ensures sound { IsSound H.Host result }
         ensures ready { IsReady (loom_told H.Host result) }
-        ensures now { result.disk.host.now ≡ disk.entry.host.now }
+        ensures now { loom_now result ≡ disk.entry.host.now }
         ensures lender { loom_lender result ≡ disk.entry.host.ghost_name }
         ensures none { (fetched result ≡ 0) × ((k : ℕ) → is_resident result k ≡ false) }
     {
         let held = disk.len();
         LoomMemory {
-            disk,
-            parts: tables.parts,
+            pager: Pager {
+                levels: TwoLevels {
+                    disk,
+                    parts: tables.parts,
+                },
+                out: tables.out,
+                pinned: Pinned { a: 0, b: 0, d: 0 },
+                hand: 0,
+            },
             buf: tables.buf,
-            out: tables.out,
             regs: [1; REGISTERS],
-            pinned: Pinned { a: 0, b: 0, d: 0 },
-            hand: 0,
             due: 0,
             thinned: false,
             ledger: Ledger {
@@ -125,7 +130,7 @@ impl<'h, H: Host> LoomMemory<'h, H> {
         ensures heap { IfOk result (λ m. IsTrue (H.tells Work) → (h : Heap) → IsLoaded H.Host disk.entry.host.now disk.entry.rest h → h.next ≡ next → (loom_told H.Host m).heap ≡ h) }
         ensures sound { IfOk result (IsSound H.Host) }
         ensures ready { IfOk result (λ m. IsReady (loom_told H.Host m)) }
-        ensures now { IfOk result (λ m. m.disk.host.now ≡ disk.entry.host.now) }
+        ensures now { IfOk result (λ m. (loom_now m) ≡ disk.entry.host.now) }
         ensures lender { IfOk result (λ m. loom_lender m ≡ disk.entry.host.ghost_name) }
         ensures none { IfOk result (λ m. (fetched m ≡ 0) × ((k : ℕ) → is_resident m k ≡ false)) }
     {

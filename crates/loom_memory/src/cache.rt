@@ -81,7 +81,7 @@ impl<'h, H: Host> LoomMemory<'h, H> {
     ghost use Rattle.long_names.specs.Access.{Mark, Nothing};
     ghost use Rattle.object_memory.specs.Contract.{Accessed, IsFound, IsPut, IsUnknown, MayDo, is_marked, with_mark};
     ghost use Rattle.object_memory.specs.Fit.{KeepsCallable, MayCall, StaysCallable};
-    ghost use Rattle.loom_memory.specs.Memory.{loom_told, loom_outside, loom_lender, word_in, IsMarking, IsRemembered, IsSound};
+    ghost use Rattle.loom_memory.specs.Memory.{loom_told, loom_outside, loom_lender, word_in, loom_core, IsMarking, IsRemembered, IsSound};
 
     /// A new lookup path begins, and is whole.
     pub fn begin_path(&mut self)
@@ -92,26 +92,28 @@ impl<'h, H: Host> LoomMemory<'h, H> {
         ensures flag { self.new.thinned ≡ self.old.thinned }
         ensures fit { KeepsCallable (IsSound H.Host) (loom_told H.Host) loom_lender (loom_outside H.Host) self.old self.new }
     {
-        refresh(&self.parts, &mut self.ledger);
+        let levels = &self.pager.levels;
+        refresh(&levels.parts, &mut self.ledger);
         self.ledger.begun = true;
     }
 
     // Marks an object that is in the core.
     fn note_mark(&mut self, s: Short)
         requires sound { IsSound H.Host self.old }
-        requires there { (at : ℕ) × (place_of ((core_of self.old.parts).entries s.0).state ≡ Some at) }
-        ensures marked { IsMarking (loom_told H.Host self.old) (loom_told H.Host self.new) ((core_of self.old.parts).entries s.0).name }
+        requires there { (at : ℕ) × (place_of ((loom_core self.old).entries s.0).state ≡ Some at) }
+        ensures marked { IsMarking (loom_told H.Host self.old) (loom_told H.Host self.new) ((loom_core self.old).entries s.0).name }
         ensures sound { IsSound H.Host self.new }
         ensures resting { IsResting self.old self.new }
-        ensures none { Remains (core_of self.new.parts) (core_of self.old.parts) }
-        ensures cached { (loom_told H.Host self.new).cache ≡ with_mark (loom_told H.Host self.old).cache (Some ((core_of self.old.parts).entries s.0).name) }
+        ensures none { Remains (loom_core self.new) (loom_core self.old) }
+        ensures cached { (loom_told H.Host self.new).cache ≡ with_mark (loom_told H.Host self.old).cache (Some ((loom_core self.old).entries s.0).name) }
         ensures due { self.new.due ≡ self.old.due }
         ensures flag { self.new.thinned ≡ self.old.thinned }
-        ensures lender { self.new.disk.host.ghost_name ≡ self.old.disk.host.ghost_name }
+        ensures lender { loom_lender self.new ≡ loom_lender self.old }
         ensures outside { loom_outside H.Host self.new ≡ loom_outside H.Host self.old }
     {
-        refresh(&self.parts, &mut self.ledger);
-        set_mark(&mut self.parts, s);
+        let levels = &mut self.pager.levels;
+        refresh(&levels.parts, &mut self.ledger);
+        set_mark(&mut levels.parts, s);
         self.ledger.mark = s.0;
     }
 
@@ -150,7 +152,7 @@ impl<'h, H: Host> LoomMemory<'h, H> {
         ensures stays { StaysThinned self.old self.new (word_in self.old.regs to) }
         ensures fit { KeepsCallable (IsSound H.Host) (loom_told H.Host) loom_lender (loom_outside H.Host) self.old self.new }
     {
-        if !names_marked(&self.parts, self.ledger.mark) {
+        if !names_marked(&self.pager.levels.parts, self.ledger.mark) {
             return false;
         }
         let c = self.word_of(class);
@@ -182,7 +184,7 @@ impl<'h, H: Host> LoomMemory<'h, H> {
         if !self.ledger.begun {
             return false;
         }
-        if !names_marked(&self.parts, self.ledger.mark) {
+        if !names_marked(&self.pager.levels.parts, self.ledger.mark) {
             return false;
         }
         let c = self.word_of(class);

@@ -1,7 +1,6 @@
 // A memory ends: nothing is named from outside any more, and everything leaves the core.
 ghost use Rattle.std.specs.Prelude.{◌≡◌, ℕ, IsTrue, IfOk, IfErr, OnOk};
 ghost use Rattle.core_view.specs.Counts.{outside};
-ghost use Rattle.leaf_lambda.specs.Parts.{core_of};
 
 use crate::bring::refusal_of;
 use crate::memory::LoomMemory;
@@ -9,14 +8,13 @@ use disk_objects::DiskObjects;
 use long_names::REGISTERS;
 use loom_host::{Host, Role};
 use object_memory::{MemFault, Reg};
-use purger::close;
 
 impl<'h, H: Host> LoomMemory<'h, H> {
     ghost use Rattle.object_memory.specs.Contract.{HasCause, SameBounds, Thins};
     ghost use Rattle.purger.specs.Closing.{HasKept};
     ghost use Rattle.loom_memory.specs.Ending.{AreNumbers};
     ghost use Rattle.loom_memory.specs.Makings.{IsLost};
-    ghost use Rattle.loom_memory.specs.Memory.{loom_told, loom_outside, IsSound};
+    ghost use Rattle.loom_memory.specs.Memory.{loom_told, loom_outside, loom_core, loom_lender, loom_now, loom_rest, IsSound};
 
     // Registers get 0.
     fn clear_registers(&mut self)
@@ -24,7 +22,7 @@ impl<'h, H: Host> LoomMemory<'h, H> {
         ensures told { loom_told H.Host self.new ≡ record (loom_told H.Host self.old) { regs = (loom_told H.Host self.new).regs } }
         ensures none { AreNumbers (loom_told H.Host self.new).regs }
         ensures sound { IsSound H.Host self.new }
-        ensures lender { self.new.disk.host.ghost_name ≡ self.old.disk.host.ghost_name }
+        ensures lender { loom_lender self.new ≡ loom_lender self.old }
         ensures outside { loom_outside H.Host self.new ≡ loom_outside H.Host self.old }
     {
         for i in 0..REGISTERS as u8 {
@@ -36,9 +34,9 @@ impl<'h, H: Host> LoomMemory<'h, H> {
     fn let_go(&mut self)
         requires sound { IsSound H.Host self.old }
         ensures told { loom_told H.Host self.new ≡ record (loom_told H.Host self.old) { regs = (loom_told H.Host self.new).regs; slots = (loom_told H.Host self.new).slots } }
-        ensures loose { (t : ℕ) → outside (core_of self.new.parts) t ≡ 0 }
+        ensures loose { (t : ℕ) → outside (loom_core self.new) t ≡ 0 }
         ensures sound { IsSound H.Host self.new }
-        ensures lender { self.new.disk.host.ghost_name ≡ self.old.disk.host.ghost_name }
+        ensures lender { loom_lender self.new ≡ loom_lender self.old }
         ensures outside { loom_outside H.Host self.new ≡ loom_outside H.Host self.old }
     {
         self.clear_registers();
@@ -52,18 +50,18 @@ impl<'h, H: Host> LoomMemory<'h, H> {
     /// fault nothing is known of the disk.
     pub fn wind_up(&mut self) -> Result<u32, MemFault>
         requires sound { IsSound H.Host self.old }
-        ensures kept { IsTrue (H.tells Role.Work) → OnOk result (HasKept H.Host self.new.disk.host.now self.new.disk.rest (loom_told H.Host self.old).heap) }
+        ensures kept { IsTrue (H.tells Role.Work) → OnOk result (HasKept H.Host (loom_now self.new) (loom_rest self.new) (loom_told H.Host self.old).heap) }
         ensures next { IfOk result (λ n. n ≡ self.old.ledger.next) }
         ensures lost { IfErr result IsLost }
         ensures cause { IfErr result (HasCause (loom_told H.Host self.old) (loom_told H.Host self.new) Thins) }
         ensures transcript { (loom_told H.Host self.new).transcript ≡ (loom_told H.Host self.old).transcript }
         ensures bounds { SameBounds (loom_told H.Host self.old).bounds (loom_told H.Host self.new).bounds }
-        ensures lender { self.new.disk.host.ghost_name ≡ self.old.disk.host.ghost_name }
+        ensures lender { loom_lender self.new ≡ loom_lender self.old }
         ensures outside { loom_outside H.Host self.new ≡ loom_outside H.Host self.old }
     {
         let next = self.ledger.next;
         self.let_go();
-        match close(&mut self.parts, &mut self.disk, &mut self.out) {
+        match self.pager.close() {
             Ok(()) => Ok(next),
             Err(f) => {
                 let f = refusal_of(f);
@@ -74,10 +72,10 @@ impl<'h, H: Host> LoomMemory<'h, H> {
 
     /// Hands the disk back, as it is.
     pub fn into_disk(self) -> DiskObjects<'h, H>
-        ensures host { result.host.ghost_name ≡ self.entry.disk.host.ghost_name }
-        ensures now { result.host.now ≡ self.entry.disk.host.now }
-        ensures rest { result.rest ≡ self.entry.disk.rest }
+        ensures host { result.host.ghost_name ≡ loom_lender self.entry }
+        ensures now { result.host.now ≡ loom_now self.entry }
+        ensures rest { result.rest ≡ loom_rest self.entry }
     {
-        self.disk
+        self.pager.levels.disk
     }
 }

@@ -9,7 +9,7 @@ use leaf_lambda::Parts;
 use loom_host::Host;
 use object_memory::MemFault;
 use object_table::laws::entries_are_counted;
-use purger::{RoomFault, compact};
+use purger::RoomFault;
 
 // More entries than there are.
 fn too_many(p: &Parts) -> u16
@@ -23,7 +23,7 @@ impl<'h, H: Host> LoomMemory<'h, H> {
     ghost use Rattle.object_memory.specs.Told.{has_slot, IsReady};
     ghost use Rattle.object_memory.specs.Contract.{Called, Follows, IsLater, KeepsSound, Thins};
     ghost use Rattle.object_memory.specs.Fit.{MayCall, StaysCallable};
-    ghost use Rattle.loom_memory.specs.Memory.{loom_told, loom_outside, loom_lender, IsQuiet, IsSound};
+    ghost use Rattle.loom_memory.specs.Memory.{loom_told, loom_outside, loom_lender, loom_parts, IsQuiet, IsSound};
     ghost use Rattle.loom_memory.specs.Freed.{IsAlive};
     ghost use Rattle.loom_memory.specs.Makings.{IsLost};
     ghost use Rattle.loom_memory.specs.Residents.{is_resident, fetched};
@@ -41,13 +41,13 @@ impl<'h, H: Host> LoomMemory<'h, H> {
         ensures sound { KeepsSound result (IsSound H.Host self.new) }
         ensures err { IfErr result (λ f. Called {A = Unit {0}} (loom_told H.Host self.old) (loom_told H.Host self.new) Thins (Err f)) }
         ensures fault { IfErr result IsLost }
-        ensures lender { self.new.disk.host.ghost_name ≡ self.old.disk.host.ghost_name }
+        ensures lender { loom_lender self.new ≡ loom_lender self.old }
         ensures outside { loom_outside H.Host self.new ≡ loom_outside H.Host self.old }
     {
-        let entries = too_many(&self.parts);
+        let entries = too_many(&self.pager.levels.parts);
         match self.room(0, entries) {
             Ok(()) => {
-                entries_are_counted(&self.parts.names.table);
+                entries_are_counted(&self.pager.levels.parts.names.table);
                 Ok(())
             }
             Err(f) => match f {
@@ -80,7 +80,7 @@ impl<'h, H: Host> LoomMemory<'h, H> {
     pub fn compact(&mut self)
         requires fit { MayCall (IsSound H.Host) (loom_told H.Host) self.old }
         ensures later { IsLater (loom_told H.Host self.old) (loom_told H.Host self.new) }
-        ensures one { largest_of self.new.parts.segment ≡ free_of self.old.parts.segment }
+        ensures one { largest_of (loom_parts self.new).segment ≡ free_of (loom_parts self.old).segment }
         ensures follows { Follows (loom_told H.Host self.old) (loom_told H.Host self.new) Thins }
         ensures peek { IsPeek H.Host self.old self.new }
         ensures resting { IsResting self.old self.new }
@@ -88,6 +88,6 @@ impl<'h, H: Host> LoomMemory<'h, H> {
         ensures flag { self.new.thinned ≡ self.old.thinned }
         ensures fit { StaysCallable (IsSound H.Host) (loom_told H.Host) loom_lender (loom_outside H.Host) self.old self.new (Ok result) }
     {
-        compact(&mut self.parts);
+        self.pager.compact();
     }
 }

@@ -59,42 +59,44 @@ impl<'h, H: Host> LoomMemory<'h, H> {
     ghost use Rattle.loom_memory.specs.Damage.{IsDamageOf, IsDamaged};
     ghost use Rattle.loom_memory.specs.Freed.{IsFreedBy, IsFreedShort};
     ghost use Rattle.loom_memory.specs.Thinned.{StaysThinned};
-    ghost use Rattle.loom_memory.specs.Memory.{loom_told, loom_outside, loom_lender, word_in, IsSound, IsQuiet, IsSilent, IsTaken, IsRefused};
+    ghost use Rattle.loom_memory.specs.Memory.{loom_told, loom_outside, loom_lender, word_in, loom_core, loom_now, loom_parts, loom_rest, IsSound, IsQuiet, IsSilent, IsTaken, IsRefused};
 
     // The long word that a lambda means. A name is below the next one.
     fn read_lambda(&mut self, s: Short, at: Addr, i: u32) -> Result<u32, MemFault>
         requires sound { IsSound H.Host self.old }
         requires ready { IsReady (loom_told H.Host self.old) }
-        requires lambda { IsAt (core_of self.old.parts) s.0 at.place i 0 }
-        requires spare { SPARE_BEHIND_CLASS ≤ spare_of self.old.parts }
+        requires lambda { IsAt (loom_core self.old) s.0 at.place i 0 }
+        requires spare { SPARE_BEHIND_CLASS ≤ spare_of (loom_parts self.old) }
         ensures quiet { OnOk result (IsQuiet (loom_told H.Host self.old) (loom_told H.Host self.new)) }
         ensures sound { KeepsSound result (IsSound H.Host self.new) }
-        ensures long { IsTrue (H.tells Role.Work) → IfOk result (λ long. slice_get (fields_there (disk_of H.Host self.old.disk.host.now self.old.disk.rest ((core_of self.old.parts).entries s.0).name)) i ≡ Some (value_in long)) }
+        ensures long { IsTrue (H.tells Role.Work) → IfOk result (λ long. slice_get (fields_there (disk_of H.Host (loom_now self.old) (loom_rest self.old) ((loom_core self.old).entries s.0).name)) i ≡ Some (value_in long)) }
         ensures below { IfOk result (λ long. IsBelow self.new.ledger.next (value_in long)) }
-        ensures named { OnOk result (((core_of self.new.parts).entries s.0).name ≡ ((core_of self.old.parts).entries s.0).name) }
-        ensures spare { OnOk result (1 ≤ spare_of self.new.parts) }
+        ensures named { OnOk result (((loom_core self.new).entries s.0).name ≡ ((loom_core self.old).entries s.0).name) }
+        ensures spare { OnOk result (1 ≤ spare_of (loom_parts self.new)) }
         ensures regs { OnOk result (self.new.regs ≡ self.old.regs) }
-        ensures at { OnOk result ((w : ℕ) × IsAt (core_of self.new.parts) s.0 at.place i w) }
-        ensures mark { OnOk result (((core_of self.new.parts).entries s.0).flags.marked ≡ ((core_of self.old.parts).entries s.0).flags.marked) }
-        ensures damage { IfErr result (IsDamageOf self.new.disk.rest ((core_of self.old.parts).entries s.0).name) }
+        ensures at { OnOk result ((w : ℕ) × IsAt (loom_core self.new) s.0 at.place i w) }
+        ensures mark { OnOk result (((loom_core self.new).entries s.0).flags.marked ≡ ((loom_core self.old).entries s.0).flags.marked) }
+        ensures damage { IfErr result (IsDamageOf (loom_rest self.new) ((loom_core self.old).entries s.0).name) }
         ensures err { IfErr result (λ f. (a : Access) → IsSilent a → makes a ≡ 0 → IsRefused (loom_told H.Host self.old) (loom_told H.Host self.new) a f) }
         ensures peek { OnOk result (IsPeek H.Host self.old self.new) }
         ensures brings { fetched self.new ≡ fetched self.old }
         ensures due { OnOk result (self.new.due ≡ self.old.due) }
         ensures flag { OnOk result (self.new.thinned ≡ self.old.thinned) }
-        ensures lender { self.new.disk.host.ghost_name ≡ self.old.disk.host.ghost_name }
+        ensures lender { loom_lender self.new ≡ loom_lender self.old }
         ensures outside { loom_outside H.Host self.new ≡ loom_outside H.Host self.old }
     {
-        match read_copy(&self.parts, &mut self.disk, &mut self.buf, s, at) {
+        let levels = &mut self.pager.levels;
+        match read_copy(&levels.parts, &mut levels.disk, &mut self.buf, s, at) {
             Ok(()) => {
-                let e = self.parts.names.table.used_entry(s);
+                let e = self.pager.levels.parts.names.table.used_entry(s);
                 if e.flags.fresh {
                     return Err(self.wrong(e.name));
                 }
                 if !is_below(self.buf.long_field(i), self.ledger.next) {
                     return Err(self.wrong(e.name));
                 }
-                Ok(resolve(&mut self.parts, s, &mut self.buf, i))
+                let levels = &mut self.pager.levels;
+                Ok(resolve(&mut levels.parts, s, &mut self.buf, i))
             }
             Err(f) => {
                 let f = refusal_of(f);
@@ -108,29 +110,32 @@ impl<'h, H: Host> LoomMemory<'h, H> {
         requires sound { IsSound H.Host self.old }
         requires value { IsValue v.now }
         requires named { IsTrue (H.tells Role.Work) → (n : ℕ) → v.now ≡ Ref n → IsNameable (loom_told H.Host self.old).heap n }
-        requires spare { 1 ≤ spare_of self.old.parts }
+        requires spare { 1 ≤ spare_of (loom_parts self.old) }
         ensures told { loom_told H.Host self.new ≡ loom_told H.Host self.old }
         ensures sound { IsSound H.Host self.new }
         ensures regs { self.new.regs ≡ self.old.regs }
-        ensures entries { (q : ℕ) → is_used ((core_of self.old.parts).entries q).state ≡ true → (core_of self.new.parts).entries q ≡ (core_of self.old.parts).entries q }
-        ensures chunks { (core_of self.new.parts).chunks ≡ (core_of self.old.parts).chunks }
-        ensures used { is_short result ≡ true → is_used ((core_of self.new.parts).entries result).state ≡ true }
+        ensures entries { (q : ℕ) → is_used ((loom_core self.old).entries q).state ≡ true → (loom_core self.new).entries q ≡ (loom_core self.old).entries q }
+        ensures chunks { (loom_core self.new).chunks ≡ (loom_core self.old).chunks }
+        ensures used { is_short result ≡ true → is_used ((loom_core self.new).entries result).state ≡ true }
         ensures some { result ≢ 0 }
-        ensures means { meant (core_of self.new.parts).entries [] 0 result ≡ v.now }
+        ensures means { meant (loom_core self.new).entries [] 0 result ≡ v.now }
         ensures ledger { self.new.ledger ≡ self.old.ledger }
         ensures steady { IsSteady H.Host self.old self.new }
         ensures due { self.new.due ≡ self.old.due }
         ensures flag { self.new.thinned ≡ self.old.thinned }
-        ensures lender { self.new.disk.host.ghost_name ≡ self.old.disk.host.ghost_name }
+        ensures lender { loom_lender self.new ≡ loom_lender self.old }
         ensures outside { loom_outside H.Host self.new ≡ loom_outside H.Host self.old }
     {
         match v.number() {
             Some(number) => short_int(number),
             None => match v.name() {
-                Some(name) => match find_or_leaf(&mut self.parts, name, 0) {
-                    Some(s) => s.0,
-                    None => unreachable!(),
-                },
+                Some(name) => {
+                    let levels = &mut self.pager.levels;
+                    match find_or_leaf(&mut levels.parts, name, 0) {
+                        Some(s) => s.0,
+                        None => unreachable!(),
+                    }
+                }
                 None => unreachable!(),
             },
         }
@@ -147,24 +152,24 @@ impl<'h, H: Host> LoomMemory<'h, H> {
         requires sound { IsSound H.Host self.old }
         requires ready { IsReady (loom_told H.Host self.old) }
         requires word { s.0 ≡ word_in self.old.regs of }
-        requires lambda { IsAt (core_of self.old.parts) s.0 at.place i 0 }
-        requires spare { SPARE_BEHIND_CLASS ≤ spare_of self.old.parts }
+        requires lambda { IsAt (loom_core self.old) s.0 at.place i 0 }
+        requires spare { SPARE_BEHIND_CLASS ≤ spare_of (loom_parts self.old) }
         ensures quiet { OnOk result (IsQuiet (loom_told H.Host self.old) (loom_told H.Host self.new)) }
         ensures sound { KeepsSound result (IsSound H.Host self.new) }
-        ensures used { IfOk result (λ w. is_short w ≡ true → is_used ((core_of self.new.parts).entries w).state ≡ true) }
+        ensures used { IfOk result (λ w. is_short w ≡ true → is_used ((loom_core self.new).entries w).state ≡ true) }
         ensures some { IfOk result (λ w. w ≢ 0) }
-        ensures means { IsTrue (H.tells Role.Work) → IfOk result (λ w. brought (loom_told H.Host self.old).heap (loom_told H.Host self.old).regs (Field 0 of i) ≡ Some (meant (core_of self.new.parts).entries [] 0 w)) }
-        ensures below { IfOk result (λ w. IsBelow self.new.ledger.next (meant (core_of self.new.parts).entries [] 0 w)) }
+        ensures means { IsTrue (H.tells Role.Work) → IfOk result (λ w. brought (loom_told H.Host self.old).heap (loom_told H.Host self.old).regs (Field 0 of i) ≡ Some (meant (loom_core self.new).entries [] 0 w)) }
+        ensures below { IfOk result (λ w. IsBelow self.new.ledger.next (meant (loom_core self.new).entries [] 0 w)) }
         ensures regs { OnOk result (self.new.regs ≡ self.old.regs) }
-        ensures at { OnOk result ((w : ℕ) × IsAt (core_of self.new.parts) s.0 at.place i w) }
-        ensures mark { OnOk result (((core_of self.new.parts).entries s.0).flags.marked ≡ ((core_of self.old.parts).entries s.0).flags.marked) }
-        ensures damage { IfErr result (IsDamageOf self.new.disk.rest ((core_of self.old.parts).entries s.0).name) }
+        ensures at { OnOk result ((w : ℕ) × IsAt (loom_core self.new) s.0 at.place i w) }
+        ensures mark { OnOk result (((loom_core self.new).entries s.0).flags.marked ≡ ((loom_core self.old).entries s.0).flags.marked) }
+        ensures damage { IfErr result (IsDamageOf (loom_rest self.new) ((loom_core self.old).entries s.0).name) }
         ensures err { IfErr result (λ f. (a : Access) → IsSilent a → makes a ≡ 0 → IsRefused (loom_told H.Host self.old) (loom_told H.Host self.new) a f) }
         ensures peek { OnOk result (IsPeek H.Host self.old self.new) }
         ensures brings { fetched self.new ≡ fetched self.old }
         ensures due { OnOk result (self.new.due ≡ self.old.due) }
         ensures flag { OnOk result (self.new.thinned ≡ self.old.thinned) }
-        ensures lender { self.new.disk.host.ghost_name ≡ self.old.disk.host.ghost_name }
+        ensures lender { loom_lender self.new ≡ loom_lender self.old }
         ensures outside { loom_outside H.Host self.new ≡ loom_outside H.Host self.old }
     {
         match self.read_lambda(s, at, i) {
@@ -181,17 +186,17 @@ impl<'h, H: Host> LoomMemory<'h, H> {
         requires sound { IsSound H.Host self.old }
         requires ready { IsReady (loom_told H.Host self.old) }
         requires word { s.0 ≡ word_in self.old.regs of }
-        requires lambda { IsAt (core_of self.old.parts) s.0 at.place i 0 }
-        requires spare { SPARE_BEHIND_CLASS ≤ spare_of self.old.parts }
+        requires lambda { IsAt (loom_core self.old) s.0 at.place i 0 }
+        requires spare { SPARE_BEHIND_CLASS ≤ spare_of (loom_parts self.old) }
         ensures taken { OnOk result (IsTaken (loom_told H.Host self.old) (loom_told H.Host self.new) to of i) }
         ensures sound { KeepsSound result (IsSound H.Host self.new) }
-        ensures damage { IfErr result (IsDamageOf self.new.disk.rest ((core_of self.old.parts).entries s.0).name) }
+        ensures damage { IfErr result (IsDamageOf (loom_rest self.new) ((loom_core self.old).entries s.0).name) }
         ensures err { IfErr result (IsRefused (loom_told H.Host self.old) (loom_told H.Host self.new) (Field to of i)) }
         ensures peek { OnOk result (IsPeek H.Host self.old self.new) }
         ensures brings { fetched self.new ≡ fetched self.old }
         ensures due { OnOk result (self.new.due ≡ self.old.due) }
         ensures stays { OnOk result (StaysThinned self.old self.new (word_in self.old.regs to)) }
-        ensures lender { self.new.disk.host.ghost_name ≡ self.old.disk.host.ghost_name }
+        ensures lender { loom_lender self.new ≡ loom_lender self.old }
         ensures outside { loom_outside H.Host self.new ≡ loom_outside H.Host self.old }
     {
         match self.lambda_word(of, s, at, i) {
@@ -209,24 +214,24 @@ impl<'h, H: Host> LoomMemory<'h, H> {
         requires ready { IsReady (loom_told H.Host self.old) }
         requires may { IsTrue (H.tells Role.Work) → CanDo (loom_told H.Host self.old).heap (loom_told H.Host self.old).regs (Field to of i) }
         requires word { s.0 ≡ word_in self.old.regs of }
-        requires there { (at : ℕ) × (place_of ((core_of self.old.parts).entries s.0).state ≡ Some at) }
-        requires spare { SPARE_BEHIND_CLASS ≤ spare_of self.old.parts }
+        requires there { (at : ℕ) × (place_of ((loom_core self.old).entries s.0).state ≡ Some at) }
+        requires spare { SPARE_BEHIND_CLASS ≤ spare_of (loom_parts self.old) }
         ensures taken { OnOk result (IsTaken (loom_told H.Host self.old) (loom_told H.Host self.new) to of i) }
         ensures sound { KeepsSound result (IsSound H.Host self.new) }
-        ensures damage { IfErr result (IsDamageOf self.new.disk.rest ((core_of self.old.parts).entries s.0).name) }
+        ensures damage { IfErr result (IsDamageOf (loom_rest self.new) ((loom_core self.old).entries s.0).name) }
         ensures err { IfErr result (IsRefused (loom_told H.Host self.old) (loom_told H.Host self.new) (Field to of i)) }
         ensures peek { OnOk result (IsPeek H.Host self.old self.new) }
         ensures brings { fetched self.new ≡ fetched self.old }
         ensures due { OnOk result (self.new.due ≡ self.old.due) }
         ensures stays { OnOk result (StaysThinned self.old self.new (word_in self.old.regs to)) }
-        ensures lender { self.new.disk.host.ghost_name ≡ self.old.disk.host.ghost_name }
+        ensures lender { loom_lender self.new ≡ loom_lender self.old }
         ensures outside { loom_outside H.Host self.new ≡ loom_outside H.Host self.old }
     {
-        let at = place_of_body(&self.parts, s);
-        if i >= field_total(&self.parts, s, at) {
+        let at = place_of_body(&self.pager.levels.parts, s);
+        if i >= field_total(&self.pager.levels.parts, s, at) {
             return Err(self.amiss(s));
         }
-        let w = field_word(&self.parts, s, at, i);
+        let w = field_word(&self.pager.levels.parts, s, at, i);
         if w == 0 {
             return self.take_lambda(to, of, s, at, i);
         }
@@ -244,7 +249,7 @@ impl<'h, H: Host> LoomMemory<'h, H> {
         ensures searched { OnOk result (IsSearched H.Host self.old self.new (name_at ((loom_told H.Host self.old).regs of))) }
         ensures gone { OnOk result (IsFreedBy H.Host self.old self.new (name_at ((loom_told H.Host self.old).regs of)) (Field to of i)) }
         ensures damage { IsDamaged self.old self.new (name_at ((loom_told H.Host self.old).regs of)) result }
-        ensures brings { BringsOne self.old self.new ((is_resident self.old (name_at ((loom_told H.Host self.old).regs of)) ≡ false) ⊎ (HasRoom self.old.parts 0 SPARE → ⊥)) }
+        ensures brings { BringsOne self.old self.new ((is_resident self.old (name_at ((loom_told H.Host self.old).regs of)) ≡ false) ⊎ (HasRoom (loom_parts self.old) 0 SPARE → ⊥)) }
         ensures short { OnOk result (IsFreedShort H.Host self.old self.new (Field to of i)) }
         ensures fit { StaysCallable (IsSound H.Host) (loom_told H.Host) loom_lender (loom_outside H.Host) self.old self.new result }
     {
@@ -264,12 +269,12 @@ impl<'h, H: Host> LoomMemory<'h, H> {
         ensures searched { OnOk result (IsSearched H.Host self.old self.new (name_at ((loom_told H.Host self.old).regs of))) }
         ensures gone { OnOk result (IsFreedBy H.Host self.old self.new (name_at ((loom_told H.Host self.old).regs of)) (Field to of i)) }
         ensures damage { IsDamaged self.old self.new (name_at ((loom_told H.Host self.old).regs of)) result }
-        ensures brings { BringsOne self.old self.new ((is_resident self.old (name_at ((loom_told H.Host self.old).regs of)) ≡ false) ⊎ (HasRoom self.old.parts 0 SPARE → ⊥)) }
+        ensures brings { BringsOne self.old self.new ((is_resident self.old (name_at ((loom_told H.Host self.old).regs of)) ≡ false) ⊎ (HasRoom (loom_parts self.old) 0 SPARE → ⊥)) }
         ensures short { OnOk result ((IsAtHand self.old (name_at ((loom_told H.Host self.old).regs of)) i → ⊥) → IsFreedShort H.Host self.old self.new (Field to of i)) }
         ensures fit { StaysCallable (IsSound H.Host) (loom_told H.Host) loom_lender (loom_outside H.Host) self.old self.new result }
     {
         match self.here(of) {
-            Some(s) => match word_in_body(&self.parts, s, i) {
+            Some(s) => match word_in_body(&self.pager.levels.parts, s, i) {
                 Some(w) => {
                     self.put_word(to, w);
                     Ok(())

@@ -2,7 +2,7 @@
 ghost use Rattle.std.specs.Prelude.{◌≡◌, ◌≤◌, ℕ, Some, None, false, IsTrue, IsSome, IfSome, IfNone, OnOk, IfOk, IfErr};
 ghost use Rattle.object_table.specs.Entries.{place_of};
 ghost use Rattle.core_segment.specs.Segment.{largest_of};
-ghost use Rattle.leaf_lambda.specs.Parts.{core_of, spare_of};
+ghost use Rattle.leaf_lambda.specs.Parts.{spare_of};
 ghost use Rattle.loom_memory.specs.declared.load.TheConstants.{SPARE_ENTRIES as SPARE};
 
 use crate::memory::LoomMemory;
@@ -11,7 +11,6 @@ use core_segment::laws::chunks_never_overlap;
 use loom_host::Host;
 use object_memory::{MemFault, Reg};
 use object_table::Short;
-use purger::compact;
 
 // Whether so many words are free together.
 #[inline(always)]
@@ -39,21 +38,21 @@ impl<'h, H: Host> LoomMemory<'h, H> {
     ghost use Rattle.loom_memory.specs.Makings.{HasThinned};
     ghost use Rattle.loom_memory.specs.Damage.{IsDamaged};
     ghost use Rattle.loom_memory.specs.Own.{BringsOne, IsSparing, MindsCache};
-    ghost use Rattle.loom_memory.specs.Memory.{loom_told, loom_outside, word_in, IsSound, IsQuiet, IsCalm, IsSilent};
+    ghost use Rattle.loom_memory.specs.Memory.{loom_told, loom_outside, word_in, loom_core, loom_lender, loom_parts, loom_pins, IsSound, IsQuiet, IsCalm, IsSilent};
 
     // Moves bodies together where so many words are free, but not as one chunk.
     #[inline(always)]
     pub(crate) fn gather(&mut self, words: u32)
         requires sound { IsSound H.Host self.old }
-        requires room { HasRoom self.old.parts words SPARE }
+        requires room { HasRoom (loom_parts self.old) words SPARE }
         ensures quiet { IsQuiet (loom_told H.Host self.old) (loom_told H.Host self.new) }
         ensures sound { IsSound H.Host self.new }
-        ensures calm { IsCalm self.old.pinned (core_of self.old.parts) (core_of self.new.parts) }
-        ensures leaves { (t : ℕ) → place_of ((core_of self.old.parts).entries t).state ≡ None → place_of ((core_of self.new.parts).entries t).state ≡ None }
+        ensures calm { IsCalm (loom_pins self.old) (loom_core self.old) (loom_core self.new) }
+        ensures leaves { (t : ℕ) → place_of ((loom_core self.old).entries t).state ≡ None → place_of ((loom_core self.new).entries t).state ≡ None }
         ensures regs { self.new.regs ≡ self.old.regs }
-        ensures pins { self.new.pinned ≡ self.old.pinned }
+        ensures pins { loom_pins self.new ≡ loom_pins self.old }
         ensures ledger { self.new.ledger ≡ self.old.ledger }
-        ensures room { (words ≤ largest_of self.new.parts.segment) × (SPARE ≤ spare_of self.new.parts) }
+        ensures room { (words ≤ largest_of (loom_parts self.new).segment) × (SPARE ≤ spare_of (loom_parts self.new)) }
         ensures gentle { IsGentle H.Host self.old self.new }
         ensures minds { MindsCache H.Host None self.old self.new (λ k. ⊥) }
         ensures idle { words ≡ 0 → self.new ≡ self.old }
@@ -61,13 +60,13 @@ impl<'h, H: Host> LoomMemory<'h, H> {
         ensures brings { fetched self.new ≡ fetched self.old }
         ensures due { self.new.due ≡ self.old.due }
         ensures flag { self.new.thinned ≡ self.old.thinned }
-        ensures lender { self.new.disk.host.ghost_name ≡ self.old.disk.host.ghost_name }
+        ensures lender { loom_lender self.new ≡ loom_lender self.old }
         ensures outside { loom_outside H.Host self.new ≡ loom_outside H.Host self.old }
     {
-        if is_together(&self.parts.segment, words) {
+        if is_together(&self.pager.levels.parts.segment, words) {
             return;
         }
-        compact(&mut self.parts);
+        self.pager.compact();
     }
 
     // The entry of the object of a register, where it is in the core.
@@ -81,13 +80,13 @@ impl<'h, H: Host> LoomMemory<'h, H> {
         ensures bounded { IfSome result (λ s. ForBounds (loom_told H.Host self.now).bounds (λ b. words_resident self.now ≤ b.core)) }
         ensures there { IfSome result (λ s. IsTrue (is_resident self.now (name_at ((loom_told H.Host self.now).regs of)))) }
         ensures away { IfNone result (is_resident self.now (name_at ((loom_told H.Host self.now).regs of)) ≡ false) }
-        ensures leaf { IfNone result (place_of ((core_of self.now.parts).entries (word_in self.now.regs of)).state ≡ None) }
+        ensures leaf { IfNone result (place_of ((loom_core self.now).entries (word_in self.now.regs of)).state ≡ None) }
     {
         let w = self.word_of(of);
-        let e = self.parts.names.table.used_entry(Short(w));
+        let e = self.pager.levels.parts.names.table.used_entry(Short(w));
         if e.place().is_some() {
             // no body is larger than the core
-            chunks_never_overlap(&self.parts.segment);
+            chunks_never_overlap(&self.pager.levels.parts.segment);
             return Some(Short(w));
         }
         None
@@ -112,8 +111,8 @@ impl<'h, H: Host> LoomMemory<'h, H> {
         ensures err { IfErr result (λ f. (a : Access) → target_of a ≡ Some of → makes a ≡ 0 → IsSilent a → IsLater (loom_told H.Host self.old) (loom_told H.Host self.new) × Refuses (loom_told H.Host self.old) (loom_told H.Host self.new) (Does a) f) }
         ensures brings { BringsOne self.old self.new (is_resident self.old (name_at ((loom_told H.Host self.old).regs of)) ≡ false) }
         ensures regs { OnOk result (self.new.regs ≡ self.old.regs) }
-        ensures pins { OnOk result (self.new.pinned ≡ self.old.pinned) }
-        ensures lender { self.new.disk.host.ghost_name ≡ self.old.disk.host.ghost_name }
+        ensures pins { OnOk result (loom_pins self.new ≡ loom_pins self.old) }
+        ensures lender { loom_lender self.new ≡ loom_lender self.old }
         ensures outside { loom_outside H.Host self.new ≡ loom_outside H.Host self.old }
     {
         match self.here(of) {

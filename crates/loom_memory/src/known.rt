@@ -1,6 +1,6 @@
 // Names that come into registers without their objects.
 ghost use Rattle.std.specs.Prelude.{◌≡◌, ◌≤◌, ◌<◌, ◌^◌, ℕ, Some, None, Ok, false, IsTrue, IsSome, IfSome, IfNone, OnOk, IfOk, IfErr};
-ghost use Rattle.leaf_lambda.specs.Parts.{core_of, spare_of};
+ghost use Rattle.leaf_lambda.specs.Parts.{spare_of};
 ghost use Rattle.core_view.specs.Room.{IsBare};
 ghost use Rattle.loom_memory.specs.declared.load.TheConstants.{SPARE_ENTRIES as SPARE};
 
@@ -24,7 +24,7 @@ impl<'h, H: Host> LoomMemory<'h, H> {
     ghost use Rattle.object_memory.specs.Told.{IsReady};
     ghost use Rattle.object_memory.specs.Contract.{Accessed, KeepsSound, LeavesAll, MayDo};
     ghost use Rattle.object_memory.specs.Fit.{MayCall, StaysCallable};
-    ghost use Rattle.loom_memory.specs.Memory.{loom_told, loom_outside, loom_lender, word_in, IsSound, IsQuiet};
+    ghost use Rattle.loom_memory.specs.Memory.{loom_told, loom_outside, loom_lender, word_in, loom_core, loom_parts, loom_pins, IsSound, IsQuiet};
     ghost use Rattle.purger.specs.Purge.{HasRoom};
     ghost use Rattle.loom_memory.specs.Gentle.{IsSteady};
     ghost use Rattle.loom_memory.specs.Own.{BringsOne, IsSparing, MindsCache};
@@ -41,31 +41,32 @@ impl<'h, H: Host> LoomMemory<'h, H> {
         requires named { IsTrue (H.tells Role.Work) → IsNameable (loom_told H.Host self.old).heap name }
         ensures told { loom_told H.Host self.new ≡ loom_told H.Host self.old }
         ensures sound { IsSound H.Host self.new }
-        ensures found { IfSome result (λ s. IsEntryOf (core_of self.new.parts) s.0 name) }
-        ensures none { IfNone result (IsSpent (core_of self.old.parts) (spare_of self.old.parts) name) }
-        ensures same { IfNone result ((core_of self.new.parts ≡ core_of self.old.parts) × (spare_of self.new.parts ≤ spare_of self.old.parts)) }
-        ensures pins { self.new.pinned ≡ self.old.pinned }
+        ensures found { IfSome result (λ s. IsEntryOf (loom_core self.new) s.0 name) }
+        ensures none { IfNone result (IsSpent (loom_core self.old) (spare_of (loom_parts self.old)) name) }
+        ensures same { IfNone result (((loom_core self.new) ≡ (loom_core self.old)) × (spare_of (loom_parts self.new) ≤ spare_of (loom_parts self.old))) }
+        ensures pins { loom_pins self.new ≡ loom_pins self.old }
         ensures steady { IsSteady H.Host self.old self.new }
         ensures brings { fetched self.new ≡ fetched self.old }
         ensures due { self.new.due ≡ self.old.due }
         ensures flag { self.new.thinned ≡ self.old.thinned }
         ensures regs { self.new.regs ≡ self.old.regs }
-        ensures lender { self.new.disk.host.ghost_name ≡ self.old.disk.host.ghost_name }
+        ensures lender { loom_lender self.new ≡ loom_lender self.old }
         ensures outside { loom_outside H.Host self.new ≡ loom_outside H.Host self.old }
     {
-        find_or_leaf(&mut self.parts, name, 0)
+        let levels = &mut self.pager.levels;
+        find_or_leaf(&mut levels.parts, name, 0)
     }
 
     // The need of an access to an object that has no entry, of so many words.
     pub(crate) fn need_beside(&self, name: Name, words: u32) -> Need
         requires sound { IsSound H.Host self.now }
         requires small { words < 2 ^ 18 }
-        ensures { IsNeedBeside (core_of self.now.parts) self.now.pinned name words result }
+        ensures { IsNeedBeside (loom_core self.now) (loom_pins self.now) name words result }
     {
-        let p = &self.parts;
-        let a = self.pinned.a;
-        let b = self.pinned.b;
-        let d = self.pinned.d;
+        let p = &self.pager.levels.parts;
+        let a = self.pager.pinned.a;
+        let b = self.pager.pinned.b;
+        let d = self.pager.pinned.d;
         let first = room_of_word(p, a);
         let second = unless(b == a, room_of_word(p, b));
         let third = unless(either(d == a, d == b), room_of_word(p, d));
@@ -84,15 +85,15 @@ impl<'h, H: Host> LoomMemory<'h, H> {
         requires sound { IsSound H.Host self.old }
         requires ready { IsReady (loom_told H.Host self.old) }
         requires has { IsTrue (H.tells Role.Work) → Has (loom_told H.Host self.old).heap name }
-        requires spent { IsSpent (core_of self.old.parts) (spare_of self.old.parts) name }
-        requires bare { IsBare self.old.pinned.a self.old.pinned.b self.old.pinned.d (core_of self.old.parts) }
+        requires spent { IsSpent (loom_core self.old) (spare_of (loom_parts self.old)) name }
+        requires bare { IsBare (loom_pins self.old).a (loom_pins self.old).b (loom_pins self.old).d (loom_core self.old) }
         ensures sound { LeavesAll result (IsSound H.Host self.new) }
         ensures err { IsRefusedOf (loom_told H.Host self.old) (loom_told H.Host self.new) name result }
         ensures brings { fetched self.new ≡ fetched self.old }
-        ensures lender { self.new.disk.host.ghost_name ≡ self.old.disk.host.ghost_name }
+        ensures lender { loom_lender self.new ≡ loom_lender self.old }
         ensures outside { loom_outside H.Host self.new ≡ loom_outside H.Host self.old }
     {
-        entries_are_counted(&self.parts.names.table);
+        entries_are_counted(&self.pager.levels.parts.names.table);
         match self.look_up(name) {
             Ok(words) => {
                 let need = self.need_beside(name, words);
@@ -111,14 +112,14 @@ impl<'h, H: Host> LoomMemory<'h, H> {
         requires named { IsTrue (H.tells Role.Work) → IsNameable (loom_told H.Host self.old).heap name }
         ensures quiet { OnOk result (IsQuiet (loom_told H.Host self.old) (loom_told H.Host self.new)) }
         ensures sound { KeepsSound result (IsSound H.Host self.new) }
-        ensures found { IfOk result (λ s. IsEntryOf (core_of self.new.parts) s.0 name) }
+        ensures found { IfOk result (λ s. IsEntryOf (loom_core self.new) s.0 name) }
         ensures minds { OnOk result (MindsCache H.Host None self.old self.new (λ k. ⊥)) }
         ensures err { IfErr result (IsRefusedOf (loom_told H.Host self.old) (loom_told H.Host self.new) name) }
         ensures brings { fetched self.new ≡ fetched self.old }
         ensures due { OnOk result (self.new.due ≡ self.old.due) }
         ensures flag { OnOk result (self.new.thinned ≡ self.old.thinned) }
         ensures regs { OnOk result (self.new.regs ≡ self.old.regs) }
-        ensures lender { self.new.disk.host.ghost_name ≡ self.old.disk.host.ghost_name }
+        ensures lender { loom_lender self.new ≡ loom_lender self.old }
         ensures outside { loom_outside H.Host self.new ≡ loom_outside H.Host self.old }
     {
         match self.clear(0) {
@@ -138,16 +139,16 @@ impl<'h, H: Host> LoomMemory<'h, H> {
         requires named { IsTrue (H.tells Role.Work) → IsNameable (loom_told H.Host self.old).heap name }
         ensures quiet { OnOk result (IsQuiet (loom_told H.Host self.old) (loom_told H.Host self.new)) }
         ensures sound { KeepsSound result (IsSound H.Host self.new) }
-        ensures found { IfOk result (λ s. IsEntryOf (core_of self.new.parts) s.0 name) }
+        ensures found { IfOk result (λ s. IsEntryOf (loom_core self.new) s.0 name) }
         ensures minds { OnOk result (MindsCache H.Host None self.old self.new (λ k. ⊥)) }
         ensures err { IfErr result (IsRefusedOf (loom_told H.Host self.old) (loom_told H.Host self.new) name) }
-        ensures steady { OnOk result (HasRoom self.old.parts 0 SPARE → IsSteady H.Host self.old self.new) }
-        ensures unspent { OnOk result ((IsSpent (core_of self.old.parts) (spare_of self.old.parts) name → ⊥) → IsSteady H.Host self.old self.new) }
+        ensures steady { OnOk result (HasRoom (loom_parts self.old) 0 SPARE → IsSteady H.Host self.old self.new) }
+        ensures unspent { OnOk result ((IsSpent (loom_core self.old) (spare_of (loom_parts self.old)) name → ⊥) → IsSteady H.Host self.old self.new) }
         ensures brings { fetched self.new ≡ fetched self.old }
         ensures due { OnOk result (self.new.due ≡ self.old.due) }
         ensures flag { OnOk result (self.new.thinned ≡ self.old.thinned) }
         ensures regs { OnOk result (self.new.regs ≡ self.old.regs) }
-        ensures lender { self.new.disk.host.ghost_name ≡ self.old.disk.host.ghost_name }
+        ensures lender { loom_lender self.new ≡ loom_lender self.old }
         ensures outside { loom_outside H.Host self.new ≡ loom_outside H.Host self.old }
     {
         match self.entry_for(name) {
@@ -166,12 +167,12 @@ impl<'h, H: Host> LoomMemory<'h, H> {
         ensures minds { OnOk result (MindsCache H.Host None self.old self.new (λ k. ⊥)) }
         ensures sound { KeepsSound result (IsSound H.Host self.new) }
         ensures err { IfErr result (IsRefusedOf (loom_told H.Host self.old) (loom_told H.Host self.new) name) }
-        ensures steady { OnOk result (HasRoom self.old.parts 0 SPARE → IsSteady H.Host self.old self.new) }
-        ensures unspent { OnOk result ((IsSpent (core_of self.old.parts) (spare_of self.old.parts) name → ⊥) → IsSteady H.Host self.old self.new) }
+        ensures steady { OnOk result (HasRoom (loom_parts self.old) 0 SPARE → IsSteady H.Host self.old self.new) }
+        ensures unspent { OnOk result ((IsSpent (loom_core self.old) (spare_of (loom_parts self.old)) name → ⊥) → IsSteady H.Host self.old self.new) }
         ensures brings { fetched self.new ≡ fetched self.old }
         ensures due { OnOk result (self.new.due ≡ self.old.due) }
         ensures stays { OnOk result (StaysThinned self.old self.new (word_in self.old.regs to)) }
-        ensures lender { self.new.disk.host.ghost_name ≡ self.old.disk.host.ghost_name }
+        ensures lender { loom_lender self.new ≡ loom_lender self.old }
         ensures outside { loom_outside H.Host self.new ≡ loom_outside H.Host self.old }
     {
         match self.entry_of(name) {
@@ -190,8 +191,8 @@ impl<'h, H: Host> LoomMemory<'h, H> {
         requires may { MayDo (loom_told H.Host self.old) (Known to name) }
         ensures access { Accessed (loom_told H.Host self.old) (loom_told H.Host self.new) (Known to name) (λ _. Nothing) result }
         ensures name { OnOk result ((loom_told H.Host self.new).regs to ≡ Ref name) }
-        ensures steady { OnOk result (HasRoom self.old.parts 0 SPARE → IsSteady H.Host self.old self.new) }
-        ensures unspent { OnOk result ((IsSpent (core_of self.old.parts) (spare_of self.old.parts) name → ⊥) → IsSteady H.Host self.old self.new) }
+        ensures steady { OnOk result (HasRoom (loom_parts self.old) 0 SPARE → IsSteady H.Host self.old self.new) }
+        ensures unspent { OnOk result ((IsSpent (loom_core self.old) (spare_of (loom_parts self.old)) name → ⊥) → IsSteady H.Host self.old self.new) }
         ensures minds { OnOk result (MindsCache H.Host None self.old self.new (λ k. ⊥)) }
         ensures brings { fetched self.new ≡ fetched self.old }
         ensures due { OnOk result (self.new.due ≡ self.old.due) }
@@ -211,7 +212,7 @@ impl<'h, H: Host> LoomMemory<'h, H> {
         ensures own { IsRef ((loom_told H.Host self.old).regs of) → IsSparing H.Host self.old self.new (name_at ((loom_told H.Host self.old).regs of)) result }
         ensures gone { IsRef ((loom_told H.Host self.old).regs of) → OnOk result (IsFreedBy H.Host self.old self.new (name_at ((loom_told H.Host self.old).regs of)) (Class to of)) }
         ensures damage { IsRef ((loom_told H.Host self.old).regs of) → IsDamaged self.old self.new (name_at ((loom_told H.Host self.old).regs of)) result }
-        ensures steady { OnOk result (IsSome (int_of ((loom_told H.Host self.old).regs of)) → HasRoom self.old.parts 0 SPARE → IsSteady H.Host self.old self.new) }
+        ensures steady { OnOk result (IsSome (int_of ((loom_told H.Host self.old).regs of)) → HasRoom (loom_parts self.old) 0 SPARE → IsSteady H.Host self.old self.new) }
         ensures minds { OnOk result (IsSome (int_of ((loom_told H.Host self.old).regs of)) → MindsCache H.Host None self.old self.new (λ k. ⊥)) }
         ensures brings { BringsOne self.old self.new (IsRef ((loom_told H.Host self.old).regs of) × (is_resident self.old (name_at ((loom_told H.Host self.old).regs of)) ≡ false)) }
         ensures rests { OnOk result (IsSome (int_of ((loom_told H.Host self.old).regs of)) → (self.new.due ≡ self.old.due) × StaysThinned self.old self.new (word_in self.old.regs to)) }

@@ -21,5 +21,5 @@ pub fn an_access_that_fits_is_answered<T>(answer: &Result<T, MemFault>)
 
 /// No call wants memory: over any host none is refused so.
 pub fn no_call_wants_memory<H: Host>()
-    ensures { (old : Told) (m : LoomMemory H) (call : Call) → Refuses old (loom_told H.Host m) call Memory → ⊥ }
+    ensures { (old : Told) (m : LoomMemory H H.Host) (call : Call) → Refuses old (loom_told H.Host m) call Memory → ⊥ }
 {}

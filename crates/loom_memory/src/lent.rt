@@ -6,7 +6,7 @@ use crate::memory::LoomMemory;
 use loom_host::{Failed, Host, Role};
 
 impl<'h, H: Host> LoomMemory<'h, H> {
-    ghost use Rattle.loom_memory.specs.Memory.{loom_told, loom_outside, IsSound};
+    ghost use Rattle.loom_memory.specs.Memory.{loom_told, loom_outside, loom_lender, IsSound};
     ghost use Rattle.loom_memory.specs.Lent.{faults_of, IsAside, IsLent};
 
     /// Puts a whole piece to Saved or to Notes. What is told of the memory stays.
@@ -22,15 +22,16 @@ impl<'h, H: Host> LoomMemory<'h, H> {
         ensures others { SameBut role (loom_outside H.Host self.old) (loom_outside H.Host self.new) }
         ensures due { self.new.due ≡ self.old.due }
         ensures flag { self.new.thinned ≡ self.old.thinned }
-        ensures lender { self.new.disk.host.ghost_name ≡ self.old.disk.host.ghost_name }
+        ensures lender { loom_lender self.new ≡ loom_lender self.old }
     {
-        self.disk.write_to(role, buf)
+        let levels = &mut self.pager.levels;
+        levels.disk.write_to(role, buf)
     }
 
     /// How often calls on this role failed, up to the greatest u64.
     pub fn fault_count(&self, role: Role) -> u64
         ensures { result ≡ faults_of H.Host self.now role }
     {
-        self.disk.fault_count(role)
+        self.pager.levels.disk.fault_count(role)
     }
 }

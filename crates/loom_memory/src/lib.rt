@@ -4,7 +4,7 @@
 //! objects that are kept then, with their exact counts.
 //!
 //! A making (`makings`) asks for a name first, then for room on the disk, then for room in the core. Where the disk is full and eight or more
-//! were made since the last settling, dead objects are freed before it is refused (`thin`, by `purger::drain`). `settle` frees them where
+//! were made since the last settling, dead objects are freed before it is refused (`thin`, by `Pager::drain`). `settle` frees them where
 //! there is no room for eight more, so that a making before the eighth frees nothing for the disk's sake (`specs/Numbers.antt`). Where the
 //! core is short, what is dead is freed before anything living leaves (`free_first`): by a making, by `settle`, and by an access that brings an
 //! object in (`clear_first`). So does `purge_all`. `specs/Freed.antt` says what is dead then: nothing, where that was looked for; and that the

@@ -129,33 +129,34 @@ impl<'h, H: Host> LoomMemory<'h, H> {
     ghost use Rattle.loom_memory.specs.Below.{IsTested};
     ghost use Rattle.loom_memory.specs.Own.{BringsOne, IsBrought, MindsCache};
     ghost use Rattle.loom_memory.specs.Damage.{IsDamageOf, IsDamaged};
-    ghost use Rattle.loom_memory.specs.Memory.{loom_told, loom_outside, word_in, words_in_row, IsNeed, IsRead, IsSized, IsSound, IsQuiet, IsCalm, IsSilent, IsRefused, IsRefusedAt};
+    ghost use Rattle.loom_memory.specs.Memory.{loom_told, loom_outside, word_in, words_in_row, loom_core, loom_lender, loom_now, loom_parts, loom_pins, loom_rest, IsNeed, IsRead, IsSized, IsSound, IsQuiet, IsCalm, IsSilent, IsRefused, IsRefusedAt};
 
     // The object of a leaf comes in from its record in the buffer. Its words have room in one chunk.
     fn come(&mut self, s: Short)
         requires sound { IsSound H.Host self.old }
-        requires leaf { (is_used ((core_of self.old.parts).entries s.0).state ≡ true) × (place_of ((core_of self.old.parts).entries s.0).state ≡ None) }
+        requires leaf { (is_used ((loom_core self.old).entries s.0).state ≡ true) × (place_of ((loom_core self.old).entries s.0).state ≡ None) }
         requires record { HasRecord self.old.buf }
-        requires there { IsTrue (H.tells Role.Work) → disk_of H.Host self.old.disk.host.now self.old.disk.rest ((core_of self.old.parts).entries s.0).name ≡ Some (object_in (raw_of self.old.buf)) }
-        requires room { 4 + body_words (object_in (raw_of self.old.buf)).body ≤ largest_of self.old.parts.segment }
-        requires spare { SPARE ≤ spare_of self.old.parts }
+        requires there { IsTrue (H.tells Role.Work) → disk_of H.Host (loom_now self.old) (loom_rest self.old) ((loom_core self.old).entries s.0).name ≡ Some (object_in (raw_of self.old.buf)) }
+        requires room { 4 + body_words (object_in (raw_of self.old.buf)).body ≤ largest_of (loom_parts self.old).segment }
+        requires spare { SPARE ≤ spare_of (loom_parts self.old) }
         ensures quiet { IsQuiet (loom_told H.Host self.old) (loom_told H.Host self.new) }
         ensures sound { IsSound H.Host self.new }
         ensures regs { self.new.regs ≡ self.old.regs }
-        ensures there { (at : ℕ) × (place_of ((core_of self.new.parts).entries s.0).state ≡ Some at) }
-        ensures spare { SPARE_BEHIND_CLASS ≤ spare_of self.new.parts }
+        ensures there { (at : ℕ) × (place_of ((loom_core self.new).entries s.0).state ≡ Some at) }
+        ensures spare { SPARE_BEHIND_CLASS ≤ spare_of (loom_parts self.new) }
         ensures counted { fetched self.new ≡ counted (fetched self.old) }
         ensures buf { self.new.buf ≡ self.old.buf }
         ensures next { self.new.ledger.next ≡ self.old.ledger.next }
         ensures gentle { IsGentle H.Host self.old self.new }
-        ensures minds { MindsCache H.Host None self.old self.new (λ k. k ≡ ((core_of self.old.parts).entries s.0).name) }
+        ensures minds { MindsCache H.Host None self.old self.new (λ k. k ≡ ((loom_core self.old).entries s.0).name) }
         ensures due { self.new.due ≡ self.old.due }
         ensures flag { self.new.thinned ≡ self.old.thinned }
-        ensures pins { self.new.pinned ≡ self.old.pinned }
-        ensures lender { self.new.disk.host.ghost_name ≡ self.old.disk.host.ghost_name }
+        ensures pins { loom_pins self.new ≡ loom_pins self.old }
+        ensures lender { loom_lender self.new ≡ loom_lender self.old }
         ensures outside { loom_outside H.Host self.new ≡ loom_outside H.Host self.old }
     {
-        translate_in(&mut self.parts, s, &mut self.buf);
+        let levels = &mut self.pager.levels;
+        translate_in(&mut levels.parts, s, &mut self.buf);
         self.ledger.count_fetch();
     }
 
@@ -163,28 +164,29 @@ impl<'h, H: Host> LoomMemory<'h, H> {
     pub(crate) fn look_up(&mut self, name: Name) -> Result<u32, MemFault>
         requires sound { IsSound H.Host self.old }
         requires ready { IsReady (loom_told H.Host self.old) }
-        requires there { IsTrue (H.tells Role.Work) → disk_of H.Host self.old.disk.host.now self.old.disk.rest name ≡ None → ⊥ }
-        requires own { IsTrue (H.tells Role.Work) → (loom_told H.Host self.old).heap.at name ≡ disk_of H.Host self.old.disk.host.now self.old.disk.rest name }
+        requires there { IsTrue (H.tells Role.Work) → disk_of H.Host (loom_now self.old) (loom_rest self.old) name ≡ None → ⊥ }
+        requires own { IsTrue (H.tells Role.Work) → (loom_told H.Host self.old).heap.at name ≡ disk_of H.Host (loom_now self.old) (loom_rest self.old) name }
         ensures quiet { OnOk result (IsQuiet (loom_told H.Host self.old) (loom_told H.Host self.new)) }
         ensures sound { KeepsSound result (IsSound H.Host self.new) }
-        ensures parts { OnOk result (self.new.parts ≡ self.old.parts) }
+        ensures parts { OnOk result (loom_parts self.new ≡ loom_parts self.old) }
         ensures regs { OnOk result (self.new.regs ≡ self.old.regs) }
-        ensures pins { OnOk result (self.new.pinned ≡ self.old.pinned) }
-        ensures record { IfOk result (λ words. IsRead (H.tells Role.Work) self.new.buf (disk_of H.Host self.new.disk.host.now self.new.disk.rest) name words) }
+        ensures pins { OnOk result (loom_pins self.new ≡ loom_pins self.old) }
+        ensures record { IfOk result (λ words. IsRead (H.tells Role.Work) self.new.buf (disk_of H.Host (loom_now self.new) (loom_rest self.new)) name words) }
         ensures tested { OnOk result (IsTested self.new name) }
-        ensures sized { IfOk result (λ words. IsSized (H.tells Role.Work) (disk_of H.Host self.new.disk.host.now self.new.disk.rest name) words) }
+        ensures sized { IfOk result (λ words. IsSized (H.tells Role.Work) (disk_of H.Host (loom_now self.new) (loom_rest self.new) name) words) }
         ensures small { IfOk result (λ words. words < 2 ^ 18) }
         ensures ledger { OnOk result (self.new.ledger ≡ self.old.ledger) }
         ensures due { OnOk result (self.new.due ≡ self.old.due) }
         ensures gentle { OnOk result (IsGentle H.Host self.old self.new) }
-        ensures damage { IfErr result (IsDamageOf self.new.disk.rest name) }
+        ensures damage { IfErr result (IsDamageOf (loom_rest self.new) name) }
         ensures err { IfErr result (λ f. (a : Access) → IsSilent a → makes a ≡ 0 → IsRefused (loom_told H.Host self.old) (loom_told H.Host self.new) a f) }
         ensures brings { fetched self.new ≡ fetched self.old }
         ensures flag { OnOk result (self.new.thinned ≡ self.old.thinned) }
-        ensures lender { self.new.disk.host.ghost_name ≡ self.old.disk.host.ghost_name }
+        ensures lender { loom_lender self.new ≡ loom_lender self.old }
         ensures outside { loom_outside H.Host self.new ≡ loom_outside H.Host self.old }
     {
-        match fetch(&mut self.disk, name, &mut self.buf) {
+        let levels = &mut self.pager.levels;
+        match fetch(&mut levels.disk, name, &mut self.buf) {
             Ok(held) => {
                 if !held {
                     return Err(self.wrong(name));
@@ -205,28 +207,28 @@ impl<'h, H: Host> LoomMemory<'h, H> {
     fn look(&mut self, s: Short) -> Result<u32, MemFault>
         requires sound { IsSound H.Host self.old }
         requires ready { IsReady (loom_told H.Host self.old) }
-        requires leaf { (is_used ((core_of self.old.parts).entries s.0).state ≡ true) × (place_of ((core_of self.old.parts).entries s.0).state ≡ None) }
-        requires has { IsTrue (H.tells Role.Work) → Has (loom_told H.Host self.old).heap ((core_of self.old.parts).entries s.0).name }
+        requires leaf { (is_used ((loom_core self.old).entries s.0).state ≡ true) × (place_of ((loom_core self.old).entries s.0).state ≡ None) }
+        requires has { IsTrue (H.tells Role.Work) → Has (loom_told H.Host self.old).heap ((loom_core self.old).entries s.0).name }
         ensures quiet { OnOk result (IsQuiet (loom_told H.Host self.old) (loom_told H.Host self.new)) }
         ensures sound { KeepsSound result (IsSound H.Host self.new) }
-        ensures parts { OnOk result (self.new.parts ≡ self.old.parts) }
+        ensures parts { OnOk result (loom_parts self.new ≡ loom_parts self.old) }
         ensures regs { OnOk result (self.new.regs ≡ self.old.regs) }
-        ensures pins { OnOk result (self.new.pinned ≡ self.old.pinned) }
-        ensures record { IfOk result (λ words. IsRead (H.tells Role.Work) self.new.buf (disk_of H.Host self.new.disk.host.now self.new.disk.rest) ((core_of self.new.parts).entries s.0).name words) }
-        ensures tested { OnOk result (IsTested self.new ((core_of self.old.parts).entries s.0).name) }
-        ensures sized { IfOk result (λ words. IsSized (H.tells Role.Work) (disk_of H.Host self.new.disk.host.now self.new.disk.rest ((core_of self.new.parts).entries s.0).name) words) }
+        ensures pins { OnOk result (loom_pins self.new ≡ loom_pins self.old) }
+        ensures record { IfOk result (λ words. IsRead (H.tells Role.Work) self.new.buf (disk_of H.Host (loom_now self.new) (loom_rest self.new)) ((loom_core self.new).entries s.0).name words) }
+        ensures tested { OnOk result (IsTested self.new ((loom_core self.old).entries s.0).name) }
+        ensures sized { IfOk result (λ words. IsSized (H.tells Role.Work) (disk_of H.Host (loom_now self.new) (loom_rest self.new) ((loom_core self.new).entries s.0).name) words) }
         ensures small { IfOk result (λ words. words < 2 ^ 18) }
         ensures ledger { OnOk result (self.new.ledger ≡ self.old.ledger) }
         ensures due { OnOk result (self.new.due ≡ self.old.due) }
         ensures gentle { OnOk result (IsGentle H.Host self.old self.new) }
-        ensures damage { IfErr result (IsDamageOf self.new.disk.rest ((core_of self.old.parts).entries s.0).name) }
+        ensures damage { IfErr result (IsDamageOf (loom_rest self.new) ((loom_core self.old).entries s.0).name) }
         ensures err { IfErr result (λ f. (a : Access) → IsSilent a → makes a ≡ 0 → IsRefused (loom_told H.Host self.old) (loom_told H.Host self.new) a f) }
         ensures brings { fetched self.new ≡ fetched self.old }
         ensures flag { OnOk result (self.new.thinned ≡ self.old.thinned) }
-        ensures lender { self.new.disk.host.ghost_name ≡ self.old.disk.host.ghost_name }
+        ensures lender { loom_lender self.new ≡ loom_lender self.old }
         ensures outside { loom_outside H.Host self.new ≡ loom_outside H.Host self.old }
     {
-        let name = self.parts.names.table.used_entry(s).name;
+        let name = self.pager.levels.parts.names.table.used_entry(s).name;
         self.look_up(name)
     }
 
@@ -236,26 +238,26 @@ impl<'h, H: Host> LoomMemory<'h, H> {
         requires ready { IsReady (loom_told H.Host self.old) }
         ensures quiet { OnOk result (IsQuiet (loom_told H.Host self.old) (loom_told H.Host self.new)) }
         ensures sound { KeepsSound result (IsSound H.Host self.new) }
-        ensures calm { OnOk result (IsCalm self.old.pinned (core_of self.old.parts) (core_of self.new.parts)) }
-        ensures leaves { OnOk result ((t : ℕ) → place_of ((core_of self.old.parts).entries t).state ≡ None → place_of ((core_of self.new.parts).entries t).state ≡ None) }
+        ensures calm { OnOk result (IsCalm (loom_pins self.old) (loom_core self.old) (loom_core self.new)) }
+        ensures leaves { OnOk result ((t : ℕ) → place_of ((loom_core self.old).entries t).state ≡ None → place_of ((loom_core self.new).entries t).state ≡ None) }
         ensures regs { OnOk result (self.new.regs ≡ self.old.regs) }
-        ensures pins { OnOk result (self.new.pinned ≡ self.old.pinned) }
-        ensures room { IfOk result (λ enough. IsTrue enough → (words ≤ largest_of self.new.parts.segment) × (SPARE ≤ spare_of self.new.parts)) }
-        ensures short { IfOk result (λ enough. enough ≡ false → IsShort self.new.parts self.new.pinned.a self.new.pinned.b self.new.pinned.d words SPARE) }
+        ensures pins { OnOk result (loom_pins self.new ≡ loom_pins self.old) }
+        ensures room { IfOk result (λ enough. IsTrue enough → (words ≤ largest_of (loom_parts self.new).segment) × (SPARE ≤ spare_of (loom_parts self.new))) }
+        ensures short { IfOk result (λ enough. enough ≡ false → IsShort (loom_parts self.new) (loom_pins self.new).a (loom_pins self.new).b (loom_pins self.new).d words SPARE) }
         ensures ledger { OnOk result (self.new.ledger ≡ self.old.ledger) }
-        ensures gentle { OnOk result (HasRoom self.old.parts words SPARE → IsGentle H.Host self.old self.new) }
+        ensures gentle { OnOk result (HasRoom (loom_parts self.old) words SPARE → IsGentle H.Host self.old self.new) }
         ensures minds { OnOk result (MindsCache H.Host None self.old self.new (λ k. ⊥)) }
-        ensures idle { OnOk result (HasRoom self.old.parts words SPARE → words ≡ 0 → self.new ≡ self.old) }
+        ensures idle { OnOk result (HasRoom (loom_parts self.old) words SPARE → words ≡ 0 → self.new ≡ self.old) }
         ensures buf { self.new.buf ≡ self.old.buf }
-        ensures sure { IfErr result (λ f. HasRoom self.old.parts words SPARE → ⊥) }
+        ensures sure { IfErr result (λ f. HasRoom (loom_parts self.old) words SPARE → ⊥) }
         ensures err { IfErr result (λ f. (a : Access) → IsSilent a → makes a ≡ 0 → IsRefused (loom_told H.Host self.old) (loom_told H.Host self.new) a f) }
         ensures brings { fetched self.new ≡ fetched self.old }
         ensures due { OnOk result (self.new.due ≡ self.old.due) }
         ensures flag { OnOk result (self.new.thinned ≡ self.old.thinned) }
-        ensures lender { self.new.disk.host.ghost_name ≡ self.old.disk.host.ghost_name }
+        ensures lender { loom_lender self.new ≡ loom_lender self.old }
         ensures outside { loom_outside H.Host self.new ≡ loom_outside H.Host self.old }
     {
-        if has_room(&self.parts, words, SPARE_ENTRIES) {
+        if has_room(&self.pager.levels.parts, words, SPARE_ENTRIES) {
             self.gather(words);
             return Ok(true);
         }
@@ -274,14 +276,14 @@ impl<'h, H: Host> LoomMemory<'h, H> {
     // The need of an access to an object of so many words.
     fn need(&self, s: Short, words: u32) -> Need
         requires sound { IsSound H.Host self.now }
-        requires used { is_used ((core_of self.now.parts).entries s.0).state ≡ true }
+        requires used { is_used ((loom_core self.now).entries s.0).state ≡ true }
         requires small { words < 2 ^ 18 }
-        ensures { IsNeed (core_of self.now.parts) self.now.pinned s.0 words result }
+        ensures { IsNeed (loom_core self.now) (loom_pins self.now) s.0 words result }
     {
-        let p = &self.parts;
-        let a = self.pinned.a;
-        let b = self.pinned.b;
-        let d = self.pinned.d;
+        let p = &self.pager.levels.parts;
+        let a = self.pager.pinned.a;
+        let b = self.pager.pinned.b;
+        let d = self.pager.pinned.d;
         let first = unless(a == s.0, room_of_word(p, a));
         let second = unless(either(b == s.0, b == a), room_of_word(p, b));
         let third = unless(either(d == s.0, either(d == a, d == b)), room_of_word(p, d));
@@ -299,16 +301,16 @@ impl<'h, H: Host> LoomMemory<'h, H> {
     fn full(&mut self, s: Short, words: u32) -> MemFault
         requires sound { IsSound H.Host self.old }
         requires ready { IsReady (loom_told H.Host self.old) }
-        requires used { is_used ((core_of self.old.parts).entries s.0).state ≡ true }
+        requires used { is_used ((loom_core self.old).entries s.0).state ≡ true }
         requires small { words < 2 ^ 18 }
-        requires sized { IsTrue (H.tells Role.Work) → words_at (loom_told H.Host self.old).heap ((core_of self.old.parts).entries s.0).name ≡ words }
-        requires unfit { (need : Wanted) → IsNeed (core_of self.old.parts) self.old.pinned s.0 words need → Fits self.old.ledger.core self.old.ledger.entries need.words need.entries → ⊥ }
+        requires sized { IsTrue (H.tells Role.Work) → words_at (loom_told H.Host self.old).heap ((loom_core self.old).entries s.0).name ≡ words }
+        requires unfit { (need : Wanted) → IsNeed (loom_core self.old) (loom_pins self.old) s.0 words need → Fits self.old.ledger.core self.old.ledger.entries need.words need.entries → ⊥ }
         ensures is { (need : Wanted) × (result ≡ MemFault.CoreFull need) }
         ensures buf { self.new.buf ≡ self.old.buf }
         ensures sound { IsSound H.Host self.new }
-        ensures err { IsRefusedAt (loom_told H.Host self.old) (loom_told H.Host self.new) ((core_of self.old.parts).entries s.0).name result }
+        ensures err { IsRefusedAt (loom_told H.Host self.old) (loom_told H.Host self.new) ((loom_core self.old).entries s.0).name result }
         ensures brings { fetched self.new ≡ fetched self.old }
-        ensures lender { self.new.disk.host.ghost_name ≡ self.old.disk.host.ghost_name }
+        ensures lender { loom_lender self.new ≡ loom_lender self.old }
         ensures outside { loom_outside H.Host self.new ≡ loom_outside H.Host self.old }
     {
         let need = self.need(s, words);
@@ -319,19 +321,28 @@ impl<'h, H: Host> LoomMemory<'h, H> {
     pub(crate) fn want(&mut self, s: Short) -> MemFault
         requires sound { IsSound H.Host self.old }
         requires ready { IsReady (loom_told H.Host self.old) }
-        requires used { is_used ((core_of self.old.parts).entries s.0).state ≡ true }
-        requires has { IsTrue (H.tells Role.Work) → Has (loom_told H.Host self.old).heap ((core_of self.old.parts).entries s.0).name }
-        requires short { IsShort self.old.parts self.old.pinned.a self.old.pinned.b self.old.pinned.d 0 SPARE }
+        requires used { is_used ((loom_core self.old).entries s.0).state ≡ true }
+        requires has { IsTrue (H.tells Role.Work) → Has (loom_told H.Host self.old).heap ((loom_core self.old).entries s.0).name }
+        requires short { IsShort (loom_parts self.old) (loom_pins self.old).a (loom_pins self.old).b (loom_pins self.old).d 0 SPARE }
         ensures sound { LeavesAll result (IsSound H.Host self.new) }
-        ensures damage { IsDamageOf self.new.disk.rest ((core_of self.old.parts).entries s.0).name result }
-        ensures err { IsRefusedAt (loom_told H.Host self.old) (loom_told H.Host self.new) ((core_of self.old.parts).entries s.0).name result }
+        ensures damage { IsDamageOf (loom_rest self.new) ((loom_core self.old).entries s.0).name result }
+        ensures err { IsRefusedAt (loom_told H.Host self.old) (loom_told H.Host self.new) ((loom_core self.old).entries s.0).name result }
         ensures brings { fetched self.new ≡ fetched self.old }
-        ensures lender { self.new.disk.host.ghost_name ≡ self.old.disk.host.ghost_name }
+        ensures lender { loom_lender self.new ≡ loom_lender self.old }
         ensures outside { loom_outside H.Host self.new ≡ loom_outside H.Host self.old }
     {
-        entries_are_counted(&self.parts.names.table);
-        if self.parts.names.table.used_entry(s).place().is_some() {
-            let words = room_of(&self.parts, s);
+        entries_are_counted(&self.pager.levels.parts.names.table);
+        if self
+            .pager
+            .levels
+            .parts
+            .names
+            .table
+            .used_entry(s)
+            .place()
+            .is_some()
+        {
+            let words = room_of(&self.pager.levels.parts, s);
             return self.full(s, words);
         }
         match self.look(s) {
@@ -345,28 +356,28 @@ impl<'h, H: Host> LoomMemory<'h, H> {
     fn bring_leaf(&mut self, s: Short, words: u32) -> Result<(), MemFault>
         requires sound { IsSound H.Host self.old }
         requires ready { IsReady (loom_told H.Host self.old) }
-        requires out { 1 ≤ outside (core_of self.old.parts) s.0 }
-        requires leaf { place_of ((core_of self.old.parts).entries s.0).state ≡ None }
-        requires record { IsRead (H.tells Role.Work) self.old.buf (disk_of H.Host self.old.disk.host.now self.old.disk.rest) ((core_of self.old.parts).entries s.0).name words }
+        requires out { 1 ≤ outside (loom_core self.old) s.0 }
+        requires leaf { place_of ((loom_core self.old).entries s.0).state ≡ None }
+        requires record { IsRead (H.tells Role.Work) self.old.buf (disk_of H.Host (loom_now self.old) (loom_rest self.old)) ((loom_core self.old).entries s.0).name words }
         requires small { words < 2 ^ 18 }
         ensures thinned { OnOk result (HasThinned (loom_told H.Host self.old) (loom_told H.Host self.new)) }
         ensures gone { OnOk result (IsFreed H.Host self.old self.new words SPARE) }
         ensures sound { KeepsSound result (IsSound H.Host self.new) }
         ensures regs { OnOk result (self.new.regs ≡ self.old.regs) }
-        ensures there { OnOk result ((at : ℕ) × (place_of ((core_of self.new.parts).entries s.0).state ≡ Some at)) }
-        ensures spare { OnOk result (SPARE_BEHIND_CLASS ≤ spare_of self.new.parts) }
+        ensures there { OnOk result ((at : ℕ) × (place_of ((loom_core self.new).entries s.0).state ≡ Some at)) }
+        ensures spare { OnOk result (SPARE_BEHIND_CLASS ≤ spare_of (loom_parts self.new)) }
         ensures counted { OnOk result (fetched self.new ≡ counted (fetched self.old)) }
         ensures buf { self.new.buf ≡ self.old.buf }
-        ensures damage { IfErr result (λ f. HasRoom self.old.parts words SPARE → IsDamageOf self.new.disk.rest ((core_of self.old.parts).entries s.0).name f) }
+        ensures damage { IfErr result (λ f. HasRoom (loom_parts self.old) words SPARE → IsDamageOf (loom_rest self.new) ((loom_core self.old).entries s.0).name f) }
         ensures next { OnOk result (self.new.ledger.next ≡ self.old.ledger.next) }
-        ensures gentle { OnOk result (HasRoom self.old.parts words SPARE → IsGentle H.Host self.old self.new) }
-        ensures minds { OnOk result (MindsCache H.Host None self.old self.new (λ k. k ≡ ((core_of self.old.parts).entries s.0).name)) }
-        ensures err { IfErr result (IsRefusedAt (loom_told H.Host self.old) (loom_told H.Host self.new) ((core_of self.old.parts).entries s.0).name) }
+        ensures gentle { OnOk result (HasRoom (loom_parts self.old) words SPARE → IsGentle H.Host self.old self.new) }
+        ensures minds { OnOk result (MindsCache H.Host None self.old self.new (λ k. k ≡ ((loom_core self.old).entries s.0).name)) }
+        ensures err { IfErr result (IsRefusedAt (loom_told H.Host self.old) (loom_told H.Host self.new) ((loom_core self.old).entries s.0).name) }
         ensures away { OnErr result (fetched self.new ≡ fetched self.old) }
         ensures due { OnOk result (IsOnTime H.Host self.old self.new) }
         ensures flag { OnOk result (KeepsThinned self.old self.new) }
-        ensures pins { OnOk result (self.new.pinned ≡ self.old.pinned) }
-        ensures lender { self.new.disk.host.ghost_name ≡ self.old.disk.host.ghost_name }
+        ensures pins { OnOk result (loom_pins self.new ≡ loom_pins self.old) }
+        ensures lender { loom_lender self.new ≡ loom_lender self.old }
         ensures outside { loom_outside H.Host self.new ≡ loom_outside H.Host self.old }
     {
         if words > self.ledger.core {
@@ -378,8 +389,8 @@ impl<'h, H: Host> LoomMemory<'h, H> {
                     self.come(s);
                     return Ok(());
                 }
-                entries_are_counted(&self.parts.names.table);
-                chunks_never_overlap(&self.parts.segment);
+                entries_are_counted(&self.pager.levels.parts.names.table);
+                chunks_never_overlap(&self.pager.levels.parts.segment);
                 Err(self.full(s, words))
             }
             Err(f) => Err(f),
@@ -390,30 +401,39 @@ impl<'h, H: Host> LoomMemory<'h, H> {
     pub(crate) fn bring(&mut self, s: Short) -> Result<(), MemFault>
         requires sound { IsSound H.Host self.old }
         requires ready { IsReady (loom_told H.Host self.old) }
-        requires out { 1 ≤ outside (core_of self.old.parts) s.0 }
-        requires has { IsTrue (H.tells Role.Work) → Has (loom_told H.Host self.old).heap ((core_of self.old.parts).entries s.0).name }
-        requires spare { SPARE ≤ spare_of self.old.parts }
+        requires out { 1 ≤ outside (loom_core self.old) s.0 }
+        requires has { IsTrue (H.tells Role.Work) → Has (loom_told H.Host self.old).heap ((loom_core self.old).entries s.0).name }
+        requires spare { SPARE ≤ spare_of (loom_parts self.old) }
         ensures thinned { OnOk result (HasThinned (loom_told H.Host self.old) (loom_told H.Host self.new)) }
-        ensures gone { OnOk result (IsTrue (H.tells Role.Work) → place_of ((core_of self.old.parts).entries s.0).state ≡ None → IsFreed H.Host self.old self.new (words_at (loom_told H.Host self.old).heap ((core_of self.old.parts).entries s.0).name) SPARE) }
+        ensures gone { OnOk result (IsTrue (H.tells Role.Work) → place_of ((loom_core self.old).entries s.0).state ≡ None → IsFreed H.Host self.old self.new (words_at (loom_told H.Host self.old).heap ((loom_core self.old).entries s.0).name) SPARE) }
         ensures sound { KeepsSound result (IsSound H.Host self.new) }
         ensures regs { OnOk result (self.new.regs ≡ self.old.regs) }
-        ensures there { OnOk result ((at : ℕ) × (place_of ((core_of self.new.parts).entries s.0).state ≡ Some at)) }
-        ensures spare { OnOk result (SPARE_BEHIND_CLASS ≤ spare_of self.new.parts) }
-        ensures idle { OnOk result ((at : ℕ) → place_of ((core_of self.old.parts).entries s.0).state ≡ Some at → self.new ≡ self.old) }
-        ensures counted { OnOk result (place_of ((core_of self.old.parts).entries s.0).state ≡ None → fetched self.new ≡ counted (fetched self.old)) }
-        ensures damage { IsDamaged self.old self.new ((core_of self.old.parts).entries s.0).name result }
-        ensures tested { OnOk result (place_of ((core_of self.old.parts).entries s.0).state ≡ None → IsTested self.new ((core_of self.old.parts).entries s.0).name) }
-        ensures gentle { OnOk result (IsTrue (H.tells Role.Work) → place_of ((core_of self.old.parts).entries s.0).state ≡ None → HasRoom self.old.parts (words_at (loom_told H.Host self.old).heap ((core_of self.old.parts).entries s.0).name) SPARE → IsGentle H.Host self.old self.new) }
-        ensures minds { OnOk result (MindsCache H.Host None self.old self.new (IsBrought self.old self.new ((core_of self.old.parts).entries s.0).name)) }
-        ensures err { IfErr result (IsRefusedAt (loom_told H.Host self.old) (loom_told H.Host self.new) ((core_of self.old.parts).entries s.0).name) }
-        ensures brings { BringsOne self.old self.new (place_of ((core_of self.old.parts).entries s.0).state ≡ None) }
+        ensures there { OnOk result ((at : ℕ) × (place_of ((loom_core self.new).entries s.0).state ≡ Some at)) }
+        ensures spare { OnOk result (SPARE_BEHIND_CLASS ≤ spare_of (loom_parts self.new)) }
+        ensures idle { OnOk result ((at : ℕ) → place_of ((loom_core self.old).entries s.0).state ≡ Some at → self.new ≡ self.old) }
+        ensures counted { OnOk result (place_of ((loom_core self.old).entries s.0).state ≡ None → fetched self.new ≡ counted (fetched self.old)) }
+        ensures damage { IsDamaged self.old self.new ((loom_core self.old).entries s.0).name result }
+        ensures tested { OnOk result (place_of ((loom_core self.old).entries s.0).state ≡ None → IsTested self.new ((loom_core self.old).entries s.0).name) }
+        ensures gentle { OnOk result (IsTrue (H.tells Role.Work) → place_of ((loom_core self.old).entries s.0).state ≡ None → HasRoom (loom_parts self.old) (words_at (loom_told H.Host self.old).heap ((loom_core self.old).entries s.0).name) SPARE → IsGentle H.Host self.old self.new) }
+        ensures minds { OnOk result (MindsCache H.Host None self.old self.new (IsBrought self.old self.new ((loom_core self.old).entries s.0).name)) }
+        ensures err { IfErr result (IsRefusedAt (loom_told H.Host self.old) (loom_told H.Host self.new) ((loom_core self.old).entries s.0).name) }
+        ensures brings { BringsOne self.old self.new (place_of ((loom_core self.old).entries s.0).state ≡ None) }
         ensures due { OnOk result (IsOnTime H.Host self.old self.new) }
         ensures flag { OnOk result (KeepsThinned self.old self.new) }
-        ensures pins { OnOk result (self.new.pinned ≡ self.old.pinned) }
-        ensures lender { self.new.disk.host.ghost_name ≡ self.old.disk.host.ghost_name }
+        ensures pins { OnOk result (loom_pins self.new ≡ loom_pins self.old) }
+        ensures lender { loom_lender self.new ≡ loom_lender self.old }
         ensures outside { loom_outside H.Host self.new ≡ loom_outside H.Host self.old }
     {
-        if self.parts.names.table.used_entry(s).place().is_some() {
+        if self
+            .pager
+            .levels
+            .parts
+            .names
+            .table
+            .used_entry(s)
+            .place()
+            .is_some()
+        {
             return Ok(());
         }
         match self.look(s) {
@@ -428,28 +448,28 @@ impl<'h, H: Host> LoomMemory<'h, H> {
         requires ready { IsReady (loom_told H.Host self.old) }
         requires name { IsRef ((loom_told H.Host self.old).regs of) }
         ensures thinned { OnOk result (HasThinned (loom_told H.Host self.old) (loom_told H.Host self.new)) }
-        ensures gone { OnOk result (IsTrue (H.tells Role.Work) → place_of ((core_of self.old.parts).entries (word_in self.old.regs of)).state ≡ None → IsFreed H.Host self.old self.new (words_at (loom_told H.Host self.old).heap (name_at ((loom_told H.Host self.old).regs of))) SPARE) }
+        ensures gone { OnOk result (IsTrue (H.tells Role.Work) → place_of ((loom_core self.old).entries (word_in self.old.regs of)).state ≡ None → IsFreed H.Host self.old self.new (words_at (loom_told H.Host self.old).heap (name_at ((loom_told H.Host self.old).regs of))) SPARE) }
         ensures sound { KeepsSound result (IsSound H.Host self.new) }
         ensures word { IfOk result (λ s. s.0 ≡ word_in self.new.regs of) }
         ensures loaded { IfOk result (λ s. IsLoaded H.Host self.new of s.0) }
         ensures core { OnOk result ((a : Access) → target_of a ≡ Some of → makes a ≡ 0 → IfBounds (loom_told H.Host self.old).bounds (HasCore (loom_told H.Host self.old) a)) }
-        ensures spare { OnOk result (SPARE_BEHIND_CLASS ≤ spare_of self.new.parts) }
+        ensures spare { OnOk result (SPARE_BEHIND_CLASS ≤ spare_of (loom_parts self.new)) }
         ensures there { OnOk result (IsTrue (is_resident self.new (name_at ((loom_told H.Host self.old).regs of)))) }
         ensures bounded { OnOk result (ForBounds (loom_told H.Host self.new).bounds (λ b. words_resident self.new ≤ b.core)) }
-        ensures idle { OnOk result ((at : ℕ) → place_of ((core_of self.old.parts).entries (word_in self.old.regs of)).state ≡ Some at → HasRoom self.old.parts 0 SPARE → self.new ≡ self.old) }
-        ensures counted { OnOk result (place_of ((core_of self.old.parts).entries (word_in self.old.regs of)).state ≡ None → fetched self.new ≡ counted (fetched self.old)) }
+        ensures idle { OnOk result ((at : ℕ) → place_of ((loom_core self.old).entries (word_in self.old.regs of)).state ≡ Some at → HasRoom (loom_parts self.old) 0 SPARE → self.new ≡ self.old) }
+        ensures counted { OnOk result (place_of ((loom_core self.old).entries (word_in self.old.regs of)).state ≡ None → fetched self.new ≡ counted (fetched self.old)) }
         ensures damage { IsDamaged self.old self.new (name_at ((loom_told H.Host self.old).regs of)) result }
-        ensures tested { OnOk result (place_of ((core_of self.old.parts).entries (word_in self.old.regs of)).state ≡ None → IsTested self.new (name_at ((loom_told H.Host self.old).regs of))) }
-        ensures gentle { OnOk result (IsTrue (H.tells Role.Work) → place_of ((core_of self.old.parts).entries (word_in self.old.regs of)).state ≡ None → HasRoom self.old.parts (words_at (loom_told H.Host self.old).heap (name_at ((loom_told H.Host self.old).regs of))) SPARE → IsGentle H.Host self.old self.new) }
+        ensures tested { OnOk result (place_of ((loom_core self.old).entries (word_in self.old.regs of)).state ≡ None → IsTested self.new (name_at ((loom_told H.Host self.old).regs of))) }
+        ensures gentle { OnOk result (IsTrue (H.tells Role.Work) → place_of ((loom_core self.old).entries (word_in self.old.regs of)).state ≡ None → HasRoom (loom_parts self.old) (words_at (loom_told H.Host self.old).heap (name_at ((loom_told H.Host self.old).regs of))) SPARE → IsGentle H.Host self.old self.new) }
         ensures minds { OnOk result (MindsCache H.Host None self.old self.new (IsBrought self.old self.new (name_at ((loom_told H.Host self.old).regs of)))) }
         ensures err { IfErr result (λ f. (a : Access) → target_of a ≡ Some of → makes a ≡ 0 → IsSilent a → IsLater (loom_told H.Host self.old) (loom_told H.Host self.new) × Refuses (loom_told H.Host self.old) (loom_told H.Host self.new) (Does a) f) }
-        ensures brings { BringsOne self.old self.new ((is_resident self.old (name_at ((loom_told H.Host self.old).regs of)) ≡ false) ⊎ (HasRoom self.old.parts 0 SPARE → ⊥)) }
+        ensures brings { BringsOne self.old self.new ((is_resident self.old (name_at ((loom_told H.Host self.old).regs of)) ≡ false) ⊎ (HasRoom (loom_parts self.old) 0 SPARE → ⊥)) }
         ensures due { OnOk result (IsOnTime H.Host self.old self.new) }
         ensures flag { OnOk result (KeepsThinned self.old self.new) }
         ensures entries { OnOk result (IsFreed H.Host self.old self.new 0 SPARE) }
         ensures regs { OnOk result (self.new.regs ≡ self.old.regs) }
-        ensures pins { OnOk result (self.new.pinned ≡ self.old.pinned) }
-        ensures lender { self.new.disk.host.ghost_name ≡ self.old.disk.host.ghost_name }
+        ensures pins { OnOk result (loom_pins self.new ≡ loom_pins self.old) }
+        ensures lender { loom_lender self.new ≡ loom_lender self.old }
         ensures outside { loom_outside H.Host self.new ≡ loom_outside H.Host self.old }
     {
         let s = Short(self.regs[of.index()]);
@@ -459,7 +479,7 @@ impl<'h, H: Host> LoomMemory<'h, H> {
                     return match self.bring(s) {
                         Ok(()) => {
                             // no body is larger than the core
-                            chunks_never_overlap(&self.parts.segment);
+                            chunks_never_overlap(&self.pager.levels.parts.segment);
                             Ok(s)
                         }
                         Err(f) => Err(f),

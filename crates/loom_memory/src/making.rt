@@ -136,12 +136,13 @@ fn put_new(
     requires len { len ≤ most_len kind }
     requires room { words_for kind len (literal_count (int_of_short header)) + HEADER ≤ largest_of p.old.segment }
     requires spare { 1 ≤ spare_of p.old }
-    ensures parts { IfSome result (λ s. IsParts p.new) }
+    ensures parts { IsParts p.new }
     ensures made { IfSome result (λ s. IsNew (core_of p.old) (core_of p.new) name class.0 kind len header s.0) }
     ensures body { IfSome result (λ s. IsTrue (is_some (place_of ((core_of p.new).entries s.0).state))) }
     ensures sound { IfSome result (λ s. (t : Levels) → core_of p.old ≡ t.core
         → IsSound t (words_ahead (fields_new kind len header) ((core_of p.old).entries class.0).name) → t.next ≡ name → IsSound (made t (core_of p.new)) []) }
     ensures none { IfNone result ((core_of p.old).find name ≡ None → ⊥) }
+    ensures still { IfNone result (p.new ≡ p.old) }
     ensures size { size_of p.new.segment ≡ size_of p.old.segment }
 {
     match p.names.resident.find(name) {
@@ -171,11 +172,12 @@ pub(crate) fn make_object(
     requires len { len ≤ most_len kind }
     requires room { words_for kind len (literal_count (int_of_short header)) + HEADER ≤ largest_of p.old.segment }
     requires spare { 2 ≤ spare_of p.old }
-    ensures parts { IfSome result (λ s. IsParts p.new) }
+    ensures parts { IsParts p.new }
     ensures made { IfSome result (λ s. IsNew (core_of p.old) (core_of p.new) name class.0 kind len header s.0) }
     ensures body { IfSome result (λ s. IsTrue (is_some (place_of ((core_of p.new).entries s.0).state))) }
     ensures sound { IfSome result (λ s. (t : Levels) → core_of p.old ≡ t.core → IsSound t [] → HasFew t → t.next ≡ name → IsSound (made t (core_of p.new)) []) }
     ensures none { IfNone result ((core_of p.old).find name ≡ None → name ≢ NIL_NAME → ⊥) }
+    ensures readied { IfNone result (IsReadied (core_of p.old) (core_of p.new)) }
     ensures size { size_of p.new.segment ≡ size_of p.old.segment }
 {
     let n = nils_of(kind, len, header);

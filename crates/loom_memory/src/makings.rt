@@ -7,7 +7,7 @@ ghost use Rattle.core_segment.specs.declared.segment.TheConstants.{HEADER};
 ghost use Rattle.core_segment.specs.Segment.{largest_of};
 ghost use Rattle.core_view.specs.Words.{int_of_short, most_len, words_for};
 ghost use Rattle.disk_objects.specs.Disk.{disk_room};
-ghost use Rattle.leaf_lambda.specs.Parts.{core_of, spare_of};
+ghost use Rattle.leaf_lambda.specs.Parts.{spare_of};
 ghost use Rattle.loom_memory.specs.declared.load.TheConstants.{SPARE_ENTRIES as SPARE};
 
 use crate::bring::refusal_of;
@@ -48,7 +48,7 @@ impl<'h, H: Host> LoomMemory<'h, H> {
     ghost use Rattle.object_memory.specs.Contract.{HasCore, IfBounds, KeepsSound};
     ghost use Rattle.purger.specs.Purge.{HasRoom, IsShort};
     ghost use Rattle.loom_memory.specs.Known.{IsEntryOf, IsNeedBeside};
-    ghost use Rattle.loom_memory.specs.Memory.{loom_told, loom_outside, IsQuiet, IsSound};
+    ghost use Rattle.loom_memory.specs.Memory.{loom_told, loom_outside, loom_core, loom_lender, loom_parts, loom_pins, loom_rest, IsQuiet, IsSound};
     ghost use Rattle.loom_memory.specs.Makings.{HasAdded, HasMade, IsFullMaking, IsLost, IsNotFull, IsRefusedAs, IsRefusedMaking, OnCoreFull};
     ghost use Rattle.loom_memory.specs.Gentle.{IsResting, IsSpared, Remains};
     ghost use Rattle.loom_memory.specs.Own.{KeepsCache, MindsCache};
@@ -62,15 +62,15 @@ impl<'h, H: Host> LoomMemory<'h, H> {
         requires ready { IsReady (loom_told H.Host self.old) }
         requires next { self.old.ledger.next ≡ name }
         requires small { words < 2 ^ 18 }
-        requires unfit { (need : Wanted) → IsNeedBeside (core_of self.old.parts) self.old.pinned name words need
+        requires unfit { (need : Wanted) → IsNeedBeside (loom_core self.old) (loom_pins self.old) name words need
             → Fits self.old.ledger.core self.old.ledger.entries need.words need.entries → ⊥ }
         ensures sound { IsSound H.Host self.new }
         ensures err { IsFullMaking (loom_told H.Host self.old) (loom_told H.Host self.new) words result }
         ensures other { IsNotFull result }
-        ensures kept { (self.new.disk ≡ self.old.disk) × (self.new.ledger.held ≡ self.old.ledger.held) }
+        ensures kept { (self.new.pager.levels.disk ≡ self.old.pager.levels.disk) × (self.new.ledger.held ≡ self.old.ledger.held) }
         ensures fetches { fetched self.new ≡ fetched self.old }
         ensures spared { IsSpared H.Host self.old self.new }
-        ensures lender { self.new.disk.host.ghost_name ≡ self.old.disk.host.ghost_name }
+        ensures lender { loom_lender self.new ≡ loom_lender self.old }
         ensures outside { loom_outside H.Host self.new ≡ loom_outside H.Host self.old }
     {
         let need = self.need_beside(name, words);
@@ -84,23 +84,23 @@ impl<'h, H: Host> LoomMemory<'h, H> {
         ensures quiet { OnOk result (IsQuiet (loom_told H.Host self.old) (loom_told H.Host self.new)) }
         ensures sound { KeepsSound result (IsSound H.Host self.new) }
         ensures regs { OnOk result (self.new.regs ≡ self.old.regs) }
-        ensures pins { OnOk result (self.new.pinned ≡ self.old.pinned) }
+        ensures pins { OnOk result (loom_pins self.new ≡ loom_pins self.old) }
         ensures ledger { OnOk result (self.new.ledger ≡ self.old.ledger) }
-        ensures limit { OnOk result (disk_room self.new.disk.rest ≡ disk_room self.old.disk.rest) }
+        ensures limit { OnOk result (disk_room (loom_rest self.new) ≡ disk_room (loom_rest self.old)) }
         ensures fetches { fetched self.new ≡ fetched self.old }
-        ensures room { IfOk result (λ enough. IsTrue enough → (words ≤ largest_of self.new.parts.segment) × (SPARE ≤ spare_of self.new.parts)) }
-        ensures short { IfOk result (λ enough. enough ≡ false → IsShort self.new.parts self.new.pinned.a self.new.pinned.b self.new.pinned.d words SPARE) }
-        ensures resting { OnOk result (HasRoom self.old.parts words SPARE → IsResting self.old self.new) }
-        ensures cached { OnOk result (HasRoom self.old.parts words SPARE → KeepsCache H.Host self.old self.new) }
+        ensures room { IfOk result (λ enough. IsTrue enough → (words ≤ largest_of (loom_parts self.new).segment) × (SPARE ≤ spare_of (loom_parts self.new))) }
+        ensures short { IfOk result (λ enough. enough ≡ false → IsShort (loom_parts self.new) (loom_pins self.new).a (loom_pins self.new).b (loom_pins self.new).d words SPARE) }
+        ensures resting { OnOk result (HasRoom (loom_parts self.old) words SPARE → IsResting self.old self.new) }
+        ensures cached { OnOk result (HasRoom (loom_parts self.old) words SPARE → KeepsCache H.Host self.old self.new) }
         ensures minds { OnOk result (MindsCache H.Host None self.old self.new (λ k. ⊥)) }
-        ensures spared { IfErr result (λ f. HasRoom self.old.parts words SPARE → IsSpared H.Host self.old self.new) }
-        ensures sure { HasRoom self.old.parts words SPARE → IsOk result }
-        ensures enough { IfOk result (λ enough. HasRoom self.old.parts words SPARE → IsTrue enough) }
+        ensures spared { IfErr result (λ f. HasRoom (loom_parts self.old) words SPARE → IsSpared H.Host self.old self.new) }
+        ensures sure { HasRoom (loom_parts self.old) words SPARE → IsOk result }
+        ensures enough { IfOk result (λ enough. HasRoom (loom_parts self.old) words SPARE → IsTrue enough) }
         ensures err { IfErr result (IsRefusedMaking (loom_told H.Host self.old) (loom_told H.Host self.new)) }
         ensures other { IfErr result IsNotFull }
         ensures fault { IfErr result IsLost }
         ensures due { OnOk result (self.new.due ≡ self.old.due) }
-        ensures lender { self.new.disk.host.ghost_name ≡ self.old.disk.host.ghost_name }
+        ensures lender { loom_lender self.new ≡ loom_lender self.old }
         ensures outside { loom_outside H.Host self.new ≡ loom_outside H.Host self.old }
     {
         match self.room(words, SPARE_ENTRIES) {
@@ -132,25 +132,26 @@ impl<'h, H: Host> LoomMemory<'h, H> {
         requires next { self.old.ledger.next ≡ name }
         requires long { IsLongName name }
         requires low { name < END }
-        requires held { self.old.ledger.held < disk_room self.old.disk.rest }
+        requires held { self.old.ledger.held < disk_room (loom_rest self.old) }
         requires len { len ≤ most_len kind }
-        requires room { words_for kind len (literal_count (int_of_short header)) + HEADER ≤ largest_of self.old.parts.segment }
-        requires spare { 2 ≤ spare_of self.old.parts }
+        requires room { words_for kind len (literal_count (int_of_short header)) + HEADER ≤ largest_of (loom_parts self.old).segment }
+        requires spare { 2 ≤ spare_of (loom_parts self.old) }
         ensures added { IfSome result (λ s. HasAdded (loom_told H.Host self.old) (loom_told H.Host self.new) class (making_of kind len header)) }
-        ensures entry { IfSome result (λ s. IsEntryOf (core_of self.new.parts) s.0 name) }
+        ensures entry { IfSome result (λ s. IsEntryOf (loom_core self.new) s.0 name) }
         ensures there { IfSome result (λ s. IsTrue (is_resident self.new name)) }
-        ensures remains { IfSome result (λ s. Remains (core_of self.old.parts) (core_of self.new.parts)) }
+        ensures remains { IfSome result (λ s. Remains (loom_core self.old) (loom_core self.new)) }
         ensures fetches { fetched self.new ≡ fetched self.old }
         ensures cached { IfSome result (λ s. KeepsCache H.Host self.old self.new) }
         ensures minds { IfSome result (λ s. MindsCache H.Host None self.old self.new (λ k. k ≡ name)) }
         ensures sound { IfSome result (λ s. IsSound H.Host self.new) }
         ensures none { IfNone result (IsTrue (H.tells Role.Work) → ⊥) }
-        ensures disk { self.new.disk ≡ self.old.disk }
+        ensures disk { self.new.pager.levels.disk ≡ self.old.pager.levels.disk }
         ensures ledger { IfNone result (self.new.ledger ≡ self.old.ledger) }
         ensures due { self.new.due ≡ self.old.due }
     {
         let s = Short(self.word_of(class));
-        match make_object(&mut self.parts, name, s, kind, len, header) {
+        let levels = &mut self.pager.levels;
+        match make_object(&mut levels.parts, name, s, kind, len, header) {
             Some(new) => {
                 self.ledger.count_making();
                 self.thinned = false;
@@ -176,10 +177,10 @@ impl<'h, H: Host> LoomMemory<'h, H> {
         requires next { self.old.ledger.next ≡ name }
         requires long { IsLongName name }
         requires low { name < END }
-        requires held { self.old.ledger.held < disk_room self.old.disk.rest }
+        requires held { self.old.ledger.held < disk_room (loom_rest self.old) }
         requires len { len ≤ most_len kind }
-        requires room { words_for kind len (literal_count (int_of_short header)) + HEADER ≤ largest_of self.old.parts.segment }
-        requires spare { 2 ≤ spare_of self.old.parts }
+        requires room { words_for kind len (literal_count (int_of_short header)) + HEADER ≤ largest_of (loom_parts self.old).segment }
+        requires spare { 2 ≤ spare_of (loom_parts self.old) }
         ensures made { OnOk result (HasMade (loom_told H.Host self.old) (loom_told H.Host self.new) to class (making_of kind len header)) }
         ensures there { OnOk result (IsTrue (is_resident self.new (name_at ((loom_told H.Host self.new).regs to)))) }
         ensures fetches { fetched self.new ≡ fetched self.old }
@@ -193,7 +194,7 @@ impl<'h, H: Host> LoomMemory<'h, H> {
         ensures other { IfErr result IsNotFull }
         ensures fault { IfErr result IsLost }
         ensures due { OnOk result (self.new.due ≡ self.old.due) }
-        ensures lender { self.new.disk.host.ghost_name ≡ self.old.disk.host.ghost_name }
+        ensures lender { loom_lender self.new ≡ loom_lender self.old }
         ensures outside { loom_outside H.Host self.new ≡ loom_outside H.Host self.old }
     {
         match self.add_object(name, class, kind, len, header) {
@@ -224,29 +225,29 @@ impl<'h, H: Host> LoomMemory<'h, H> {
         requires next { self.old.ledger.next ≡ name }
         requires long { IsLongName name }
         requires low { name < END }
-        requires held { self.old.ledger.held < disk_room self.old.disk.rest }
+        requires held { self.old.ledger.held < disk_room (loom_rest self.old) }
         requires len { len ≤ most_len kind }
         ensures made { OnOk result (HasMade (loom_told H.Host self.old) (loom_told H.Host self.new) to class (making_of kind len header)) }
         ensures there { OnOk result (IsTrue (is_resident self.new (name_at ((loom_told H.Host self.new).regs to)))) }
         ensures fetches { fetched self.new ≡ fetched self.old }
-        ensures resting { OnOk result (HasRoom self.old.parts (words_for kind len (literal_count (int_of_short header)) + HEADER) SPARE → IsResting self.old self.new) }
-        ensures cached { OnOk result (HasRoom self.old.parts (words_for kind len (literal_count (int_of_short header)) + HEADER) SPARE → KeepsCache H.Host self.old self.new) }
+        ensures resting { OnOk result (HasRoom (loom_parts self.old) (words_for kind len (literal_count (int_of_short header)) + HEADER) SPARE → IsResting self.old self.new) }
+        ensures cached { OnOk result (HasRoom (loom_parts self.old) (words_for kind len (literal_count (int_of_short header)) + HEADER) SPARE → KeepsCache H.Host self.old self.new) }
         ensures minds { OnOk result (MindsCache H.Host None self.old self.new (λ k. (loom_told H.Host self.new).regs to ≡ Ref k)) }
-        ensures spared { IfErr result (λ f. HasRoom self.old.parts (words_for kind len (literal_count (int_of_short header)) + HEADER) SPARE → IsSpared H.Host self.old self.new) }
-        ensures sure { IfErr result (λ f. IsTrue (H.tells Role.Work) → HasRoom self.old.parts (words_for kind len (literal_count (int_of_short header)) + HEADER) SPARE → ⊥) }
+        ensures spared { IfErr result (λ f. HasRoom (loom_parts self.old) (words_for kind len (literal_count (int_of_short header)) + HEADER) SPARE → IsSpared H.Host self.old self.new) }
+        ensures sure { IfErr result (λ f. IsTrue (H.tells Role.Work) → HasRoom (loom_parts self.old) (words_for kind len (literal_count (int_of_short header)) + HEADER) SPARE → ⊥) }
         ensures core { OnOk result (IfBounds (loom_told H.Host self.old).bounds (HasCore (loom_told H.Host self.old) (Make to class (making_of kind len header)))) }
         ensures sound { KeepsSound result (IsSound H.Host self.new) }
         ensures err { IfErr result (IsRefusedAs (loom_told H.Host self.old) (loom_told H.Host self.new) to class (making_of kind len header)) }
         ensures other { IfErr result IsNotFull }
-        ensures full { IfErr result (λ f. OnCoreFull f (self.new.ledger.held < disk_room self.new.disk.rest)) }
+        ensures full { IfErr result (λ f. OnCoreFull f (self.new.ledger.held < disk_room (loom_rest self.new))) }
         ensures due { OnOk result (self.new.due ≡ self.old.due) }
-        ensures lender { self.new.disk.host.ghost_name ≡ self.old.disk.host.ghost_name }
+        ensures lender { loom_lender self.new ≡ loom_lender self.old }
         ensures outside { loom_outside H.Host self.new ≡ loom_outside H.Host self.old }
     {
         let words = words_new(kind, len, header);
         if words > self.ledger.core {
             // no more words are free than there are
-            chunks_never_overlap(&self.parts.segment);
+            chunks_never_overlap(&self.pager.levels.parts.segment);
             return Err(self.full_new(name, words));
         }
         match self.clear_new(words) {
@@ -254,8 +255,8 @@ impl<'h, H: Host> LoomMemory<'h, H> {
                 if enough {
                     return self.put_object(name, to, class, kind, len, header);
                 }
-                entries_are_counted(&self.parts.names.table);
-                chunks_never_overlap(&self.parts.segment);
+                entries_are_counted(&self.pager.levels.parts.names.table);
+                chunks_never_overlap(&self.pager.levels.parts.segment);
                 Err(self.full_new(name, words))
             }
             Err(f) => Err(f),
@@ -275,7 +276,7 @@ impl<'h, H: Host> LoomMemory<'h, H> {
     ghost use Rattle.object_memory.specs.declared.fault.MemFault.TheVariants.{WorkFull};
     ghost use Rattle.object_memory.specs.Contract.{Accessed, IfBounds, KeepsSound, MayDo};
     ghost use Rattle.object_memory.specs.Fit.{MayCall, StaysCallable};
-    ghost use Rattle.loom_memory.specs.Memory.{loom_told, loom_outside, loom_lender, IsSound};
+    ghost use Rattle.loom_memory.specs.Memory.{loom_told, loom_outside, loom_lender, loom_core, loom_parts, loom_rest, IsSound};
     ghost use Rattle.loom_memory.specs.Freed.{IsAlive, IsFreed, IsFreedMaking, IsOnTime};
     ghost use Rattle.loom_memory.specs.Makings.{HasThinned, IfNameless, IsNameless, IsRefusedMaking, OnCoreFull};
     ghost use Rattle.loom_memory.specs.Gentle.{IsSpared};
@@ -288,17 +289,17 @@ impl<'h, H: Host> LoomMemory<'h, H> {
     fn crowded(&mut self) -> MemFault
         requires sound { IsSound H.Host self.old }
         requires ready { IsReady (loom_told H.Host self.old) }
-        requires all { disk_room self.old.disk.rest ≤ self.old.ledger.held }
+        requires all { disk_room (loom_rest self.old) ≤ self.old.ledger.held }
         requires early { self.old.ledger.made < MAKINGS }
         ensures sound { IsSound H.Host self.new }
         ensures err { IsRefusedMaking (loom_told H.Host self.old) (loom_told H.Host self.new) result }
         ensures full { OnCoreFull result ⊥ }
         ensures fetches { fetched self.new ≡ fetched self.old }
         ensures spared { IsSpared H.Host self.old self.new }
-        ensures lender { self.new.disk.host.ghost_name ≡ self.old.disk.host.ghost_name }
+        ensures lender { loom_lender self.new ≡ loom_lender self.old }
         ensures outside { loom_outside H.Host self.new ≡ loom_outside H.Host self.old }
     {
-        let room = self.disk.room();
+        let room = self.pager.levels.disk.room();
         match self.ledger.base {
             Some(base) => self.refuse(MemFault::WorkFull {
                 live: base + self.ledger.made + 1,
@@ -312,16 +313,16 @@ impl<'h, H: Host> LoomMemory<'h, H> {
     fn overfull(&mut self) -> MemFault
         requires sound { IsSound H.Host self.old }
         requires ready { IsReady (loom_told H.Host self.old) }
-        requires all { disk_room self.old.disk.rest ≤ self.old.ledger.held }
+        requires all { disk_room (loom_rest self.old) ≤ self.old.ledger.held }
         ensures sound { IsSound H.Host self.new }
         ensures told { loom_told H.Host self.new ≡ refused (loom_told H.Host self.old) result }
-        ensures full { result ≡ WorkFull (self.old.ledger.held + 1) (disk_room self.old.disk.rest) }
+        ensures full { result ≡ WorkFull (self.old.ledger.held + 1) (disk_room (loom_rest self.old)) }
         ensures fetches { fetched self.new ≡ fetched self.old }
         ensures later { (loom_told H.Host self.old).refusals ≤ counted (loom_told H.Host self.old).refusals }
-        ensures lender { self.new.disk.host.ghost_name ≡ self.old.disk.host.ghost_name }
+        ensures lender { loom_lender self.new ≡ loom_lender self.old }
         ensures outside { loom_outside H.Host self.new ≡ loom_outside H.Host self.old }
     {
-        let room = self.disk.room();
+        let room = self.pager.levels.disk.room();
         let live = self.ledger.held + 1;
         self.refuse(MemFault::WorkFull { live, room })
     }
@@ -333,21 +334,21 @@ impl<'h, H: Host> LoomMemory<'h, H> {
         requires late { MAKINGS ≤ self.old.ledger.made }
         ensures thinned { OnOk result (HasThinned (loom_told H.Host self.old) (loom_told H.Host self.new)) }
         ensures sound { KeepsSound result (IsSound H.Host self.new) }
-        ensures held { OnOk result (self.new.ledger.held < disk_room self.new.disk.rest) }
+        ensures held { OnOk result (self.new.ledger.held < disk_room (loom_rest self.new)) }
         ensures next { OnOk result (self.new.ledger.next ≡ self.old.ledger.next) }
         ensures fetches { fetched self.new ≡ fetched self.old }
         ensures minds { OnOk result (IsTrue (H.tells Role.Work) → MindsCache H.Host None self.old self.new (λ k. ⊥)) }
-        ensures bodies { OnOk result (IsTrue (H.tells Role.Work) → KeepsHeld (core_of self.old.parts) (core_of self.new.parts) (loom_told H.Host self.new).heap) }
-        ensures room { OnOk result ((words : ℕ) → HasRoom self.old.parts words SPARE → HasRoom self.new.parts words SPARE) }
+        ensures bodies { OnOk result (IsTrue (H.tells Role.Work) → KeepsHeld (loom_core self.old) (loom_core self.new) (loom_told H.Host self.new).heap) }
+        ensures room { OnOk result ((words : ℕ) → HasRoom (loom_parts self.old) words SPARE → HasRoom (loom_parts self.new) words SPARE) }
         ensures err { IfErr result (IsRefusedMaking (loom_told H.Host self.old) (loom_told H.Host self.new)) }
         ensures full { IfErr result (λ f. OnCoreFull f ⊥) }
         ensures alive { OnOk result (IsAlive (loom_told H.Host self.new)) }
-        ensures lender { self.new.disk.host.ghost_name ≡ self.old.disk.host.ghost_name }
+        ensures lender { loom_lender self.new ≡ loom_lender self.old }
         ensures outside { loom_outside H.Host self.new ≡ loom_outside H.Host self.old }
     {
         match self.thin() {
             Ok(()) => {
-                if self.ledger.held < self.disk.room() {
+                if self.ledger.held < self.pager.levels.disk.room() {
                     return Ok(());
                 }
                 Err(self.overfull())
@@ -362,23 +363,23 @@ impl<'h, H: Host> LoomMemory<'h, H> {
         requires ready { IsReady (loom_told H.Host self.old) }
         ensures thinned { OnOk result (HasThinned (loom_told H.Host self.old) (loom_told H.Host self.new)) }
         ensures sound { KeepsSound result (IsSound H.Host self.new) }
-        ensures held { OnOk result (self.new.ledger.held < disk_room self.new.disk.rest) }
+        ensures held { OnOk result (self.new.ledger.held < disk_room (loom_rest self.new)) }
         ensures next { OnOk result (self.new.ledger.next ≡ self.old.ledger.next) }
         ensures fetches { fetched self.new ≡ fetched self.old }
         ensures minds { OnOk result (IsTrue (H.tells Role.Work) → MindsCache H.Host None self.old self.new (λ k. ⊥)) }
-        ensures roomy { OnOk result (self.old.ledger.held < disk_room self.old.disk.rest → self.new ≡ self.old) }
+        ensures roomy { OnOk result (self.old.ledger.held < disk_room (loom_rest self.old) → self.new ≡ self.old) }
         ensures early { OnOk result (self.old.ledger.made < MAKINGS → self.new ≡ self.old) }
-        ensures bodies { OnOk result (IsTrue (H.tells Role.Work) → KeepsHeld (core_of self.old.parts) (core_of self.new.parts) (loom_told H.Host self.new).heap) }
-        ensures room { OnOk result ((words : ℕ) → HasRoom self.old.parts words SPARE → HasRoom self.new.parts words SPARE) }
+        ensures bodies { OnOk result (IsTrue (H.tells Role.Work) → KeepsHeld (loom_core self.old) (loom_core self.new) (loom_told H.Host self.new).heap) }
+        ensures room { OnOk result ((words : ℕ) → HasRoom (loom_parts self.old) words SPARE → HasRoom (loom_parts self.new) words SPARE) }
         ensures err { IfErr result (IsRefusedMaking (loom_told H.Host self.old) (loom_told H.Host self.new)) }
         ensures full { IfErr result (λ f. OnCoreFull f ⊥) }
         ensures spared { IfErr result (λ f. IsUndrained self.old → IsSpared H.Host self.old self.new) }
-        ensures sure { IfErr result (λ f. self.old.ledger.held < disk_room self.old.disk.rest → ⊥) }
-        ensures alive { OnOk result (disk_room self.old.disk.rest ≤ self.old.ledger.held → IsAlive (loom_told H.Host self.new)) }
-        ensures lender { self.new.disk.host.ghost_name ≡ self.old.disk.host.ghost_name }
+        ensures sure { IfErr result (λ f. self.old.ledger.held < disk_room (loom_rest self.old) → ⊥) }
+        ensures alive { OnOk result (disk_room (loom_rest self.old) ≤ self.old.ledger.held → IsAlive (loom_told H.Host self.new)) }
+        ensures lender { loom_lender self.new ≡ loom_lender self.old }
         ensures outside { loom_outside H.Host self.new ≡ loom_outside H.Host self.old }
     {
-        if self.ledger.held < self.disk.room() {
+        if self.ledger.held < self.pager.levels.disk.room() {
             return Ok(());
         }
         if self.ledger.made < MAKINGS_BEFORE_FREEING {
@@ -393,21 +394,21 @@ impl<'h, H: Host> LoomMemory<'h, H> {
         requires ready { IsReady (loom_told H.Host self.old) }
         ensures thinned { OnOk result (HasThinned (loom_told H.Host self.old) (loom_told H.Host self.new)) }
         ensures sound { KeepsSound result (IsSound H.Host self.new) }
-        ensures held { OnOk result (self.new.ledger.held < disk_room self.new.disk.rest) }
+        ensures held { OnOk result (self.new.ledger.held < disk_room (loom_rest self.new)) }
         ensures next { OnOk result (self.new.ledger.next ≡ self.old.ledger.next) }
         ensures fetches { fetched self.new ≡ fetched self.old }
         ensures minds { OnOk result (IsTrue (H.tells Role.Work) → MindsCache H.Host None self.old self.new (λ k. ⊥)) }
-        ensures roomy { OnOk result (self.old.ledger.held < disk_room self.old.disk.rest → HasRoom self.old.parts words SPARE → self.new ≡ self.old) }
-        ensures early { OnOk result (self.old.ledger.made < MAKINGS → HasRoom self.old.parts words SPARE → self.new ≡ self.old) }
+        ensures roomy { OnOk result (self.old.ledger.held < disk_room (loom_rest self.old) → HasRoom (loom_parts self.old) words SPARE → self.new ≡ self.old) }
+        ensures early { OnOk result (self.old.ledger.made < MAKINGS → HasRoom (loom_parts self.old) words SPARE → self.new ≡ self.old) }
         ensures gone { OnOk result (IsFreed H.Host self.old self.new words SPARE) }
         ensures due { OnOk result (IsOnTime H.Host self.old self.new) }
-        ensures bodies { OnOk result (IsTrue (H.tells Role.Work) → KeepsHeld (core_of self.old.parts) (core_of self.new.parts) (loom_told H.Host self.new).heap) }
-        ensures room { OnOk result ((words : ℕ) → HasRoom self.old.parts words SPARE → HasRoom self.new.parts words SPARE) }
+        ensures bodies { OnOk result (IsTrue (H.tells Role.Work) → KeepsHeld (loom_core self.old) (loom_core self.new) (loom_told H.Host self.new).heap) }
+        ensures room { OnOk result ((words : ℕ) → HasRoom (loom_parts self.old) words SPARE → HasRoom (loom_parts self.new) words SPARE) }
         ensures err { IfErr result (IsRefusedMaking (loom_told H.Host self.old) (loom_told H.Host self.new)) }
         ensures full { IfErr result (λ f. OnCoreFull f ⊥) }
-        ensures spared { IfErr result (λ f. IsUndrained self.old → HasRoom self.old.parts words SPARE → IsSpared H.Host self.old self.new) }
-        ensures sure { IfErr result (λ f. self.old.ledger.held < disk_room self.old.disk.rest → HasRoom self.old.parts words SPARE → ⊥) }
-        ensures lender { self.new.disk.host.ghost_name ≡ self.old.disk.host.ghost_name }
+        ensures spared { IfErr result (λ f. IsUndrained self.old → HasRoom (loom_parts self.old) words SPARE → IsSpared H.Host self.old self.new) }
+        ensures sure { IfErr result (λ f. self.old.ledger.held < disk_room (loom_rest self.old) → HasRoom (loom_parts self.old) words SPARE → ⊥) }
+        ensures lender { loom_lender self.new ≡ loom_lender self.old }
         ensures outside { loom_outside H.Host self.new ≡ loom_outside H.Host self.old }
     {
         match self.ask_room() {
@@ -437,7 +438,7 @@ impl<'h, H: Host> LoomMemory<'h, H> {
         ensures there { OnOk result (IsTrue (is_resident self.new (name_at ((loom_told H.Host self.new).regs to)))) }
         ensures fetches { fetched self.new ≡ fetched self.old }
         ensures early { IsTrue (H.tells Role.Work) → IfBounds (loom_told H.Host self.old).bounds (λ b. b.made < MAKINGS
-            → HasRoom self.old.parts (4 + body_words (body_made (making_of kind len header))) SPARE
+            → HasRoom (loom_parts self.old) (4 + body_words (body_made (making_of kind len header))) SPARE
             → OnOk result ((loom_told H.Host self.new).heap ≡ heap_after (loom_told H.Host self.old).heap (loom_told H.Host self.old).regs (Make to class (making_of kind len header)))) }
         ensures own { OnOk result (IsSparingMaking H.Host self.old self.new (making_of kind len header)) }
         ensures minds { OnOk result (IsTrue (H.tells Role.Work) → MindsCache H.Host None self.old self.new (λ k. (loom_told H.Host self.new).regs to ≡ Ref k)) }
@@ -463,7 +464,7 @@ impl<'h, H: Host> LoomMemory<'h, H> {
         ensures err { IfNameless (loom_told H.Host self.old) (loom_told H.Host self.new) result }
         ensures same { result ≡ f }
         ensures spared { IsSpared H.Host self.old self.new }
-        ensures lender { self.new.disk.host.ghost_name ≡ self.old.disk.host.ghost_name }
+        ensures lender { loom_lender self.new ≡ loom_lender self.old }
         ensures outside { loom_outside H.Host self.new ≡ loom_outside H.Host self.old }
     {
         self.refuse(f)
@@ -486,7 +487,7 @@ impl<'h, H: Host> LoomMemory<'h, H> {
         ensures there { OnOk result (IsTrue (is_resident self.new (name_at ((loom_told H.Host self.new).regs to)))) }
         ensures fetches { fetched self.new ≡ fetched self.old }
         ensures early { IsTrue (H.tells Role.Work) → IfBounds (loom_told H.Host self.old).bounds (λ b. b.made < MAKINGS
-            → HasRoom self.old.parts (4 + body_words (body_made (making_of kind len header))) SPARE
+            → HasRoom (loom_parts self.old) (4 + body_words (body_made (making_of kind len header))) SPARE
             → OnOk result ((loom_told H.Host self.new).heap ≡ heap_after (loom_told H.Host self.old).heap (loom_told H.Host self.old).regs (Make to class (making_of kind len header)))) }
         ensures own { OnOk result (IsSparingMaking H.Host self.old self.new (making_of kind len header)) }
         ensures minds { OnOk result (IsTrue (H.tells Role.Work) → MindsCache H.Host None self.old self.new (λ k. (loom_told H.Host self.new).regs to ≡ Ref k)) }
@@ -519,7 +520,7 @@ impl<'h, H: Host> LoomMemory<'h, H> {
         ensures there { OnOk result (IsTrue (is_resident self.new (name_at ((loom_told H.Host self.new).regs to)))) }
         ensures fetches { fetched self.new ≡ fetched self.old }
         ensures early { IsTrue (H.tells Role.Work) → IfBounds (loom_told H.Host self.old).bounds (λ b. b.made < MAKINGS
-            → HasRoom self.old.parts (4 + body_words (body_made (OfPointers n))) SPARE
+            → HasRoom (loom_parts self.old) (4 + body_words (body_made (OfPointers n))) SPARE
             → OnOk result ((loom_told H.Host self.new).heap ≡ heap_after (loom_told H.Host self.old).heap (loom_told H.Host self.old).regs (Make to class (OfPointers n)))) }
         ensures own { OnOk result (IsSparingMaking H.Host self.old self.new (OfPointers n)) }
         ensures minds { OnOk result (IsTrue (H.tells Role.Work) → MindsCache H.Host None self.old self.new (λ k. (loom_told H.Host self.new).regs to ≡ Ref k)) }
@@ -541,7 +542,7 @@ impl<'h, H: Host> LoomMemory<'h, H> {
         ensures there { OnOk result (IsTrue (is_resident self.new (name_at ((loom_told H.Host self.new).regs to)))) }
         ensures fetches { fetched self.new ≡ fetched self.old }
         ensures early { IsTrue (H.tells Role.Work) → IfBounds (loom_told H.Host self.old).bounds (λ b. b.made < MAKINGS
-            → HasRoom self.old.parts (4 + body_words (body_made (OfWords n))) SPARE
+            → HasRoom (loom_parts self.old) (4 + body_words (body_made (OfWords n))) SPARE
             → OnOk result ((loom_told H.Host self.new).heap ≡ heap_after (loom_told H.Host self.old).heap (loom_told H.Host self.old).regs (Make to class (OfWords n)))) }
         ensures own { OnOk result (IsSparingMaking H.Host self.old self.new (OfWords n)) }
         ensures minds { OnOk result (IsTrue (H.tells Role.Work) → MindsCache H.Host None self.old self.new (λ k. (loom_told H.Host self.new).regs to ≡ Ref k)) }
@@ -563,7 +564,7 @@ impl<'h, H: Host> LoomMemory<'h, H> {
         ensures there { OnOk result (IsTrue (is_resident self.new (name_at ((loom_told H.Host self.new).regs to)))) }
         ensures fetches { fetched self.new ≡ fetched self.old }
         ensures early { IsTrue (H.tells Role.Work) → IfBounds (loom_told H.Host self.old).bounds (λ b. b.made < MAKINGS
-            → HasRoom self.old.parts (4 + body_words (body_made (OfBytes n))) SPARE
+            → HasRoom (loom_parts self.old) (4 + body_words (body_made (OfBytes n))) SPARE
             → OnOk result ((loom_told H.Host self.new).heap ≡ heap_after (loom_told H.Host self.old).heap (loom_told H.Host self.old).regs (Make to class (OfBytes n)))) }
         ensures own { OnOk result (IsSparingMaking H.Host self.old self.new (OfBytes n)) }
         ensures minds { OnOk result (IsTrue (H.tells Role.Work) → MindsCache H.Host None self.old self.new (λ k. (loom_told H.Host self.new).regs to ≡ Ref k)) }
@@ -591,7 +592,7 @@ impl<'h, H: Host> LoomMemory<'h, H> {
         ensures there { OnOk result (IsTrue (is_resident self.new (name_at ((loom_told H.Host self.new).regs to)))) }
         ensures fetches { fetched self.new ≡ fetched self.old }
         ensures early { IsTrue (H.tells Role.Work) → IfBounds (loom_told H.Host self.old).bounds (λ b. b.made < MAKINGS
-            → HasRoom self.old.parts (4 + body_words (body_made (OfMethod header code))) SPARE
+            → HasRoom (loom_parts self.old) (4 + body_words (body_made (OfMethod header code))) SPARE
             → OnOk result ((loom_told H.Host self.new).heap ≡ heap_after (loom_told H.Host self.old).heap (loom_told H.Host self.old).regs (Make to class (OfMethod header code)))) }
         ensures own { OnOk result (IsSparingMaking H.Host self.old self.new (OfMethod header code)) }
         ensures minds { OnOk result (IsTrue (H.tells Role.Work) → MindsCache H.Host None self.old self.new (λ k. (loom_told H.Host self.new).regs to ≡ Ref k)) }

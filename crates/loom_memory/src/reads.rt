@@ -2,7 +2,6 @@
 ghost use Rattle.std.specs.Prelude.{◌≡◌, ◌+◌, ◌<◌, ◌⊎◌, ℕ, Some, None, true, false, IsTrue, IfSome, IfNone, IfOk, OnOk, length};
 ghost use Rattle.long_names.specs.declared.limits.TheConstants.{MOST_FIELDS};
 ghost use Rattle.object_table.specs.Entries.{is_used};
-ghost use Rattle.leaf_lambda.specs.Parts.{core_of};
 ghost use Rattle.purger.specs.declared.eviction.TheConstants.{NOWHERE};
 
 use crate::bodies::{
@@ -24,7 +23,7 @@ impl<'h, H: Host> LoomMemory<'h, H> {
     ghost use Rattle.object_memory.specs.Shape.{code_at, field_count, IsPartAt};
     ghost use Rattle.object_memory.specs.Contract.{Accessed, LeavesAll, MayDo, makes};
     ghost use Rattle.object_memory.specs.Fit.{MayCall, StaysCallable};
-    ghost use Rattle.loom_memory.specs.Memory.{loom_told, loom_outside, loom_lender, IsSound, IsQuiet, IsSilent, IsRefused};
+    ghost use Rattle.loom_memory.specs.Memory.{loom_told, loom_outside, loom_lender, loom_core, IsSound, IsQuiet, IsSilent, IsRefused};
     ghost use Rattle.loom_memory.specs.Residents.{fetched, is_resident};
     ghost use Rattle.loom_memory.specs.Own.{BringsOne, IsSparing};
     ghost use Rattle.loom_memory.specs.Damage.{IsDamaged};
@@ -35,15 +34,15 @@ impl<'h, H: Host> LoomMemory<'h, H> {
     #[inline(never)]
     pub(crate) fn amiss(&mut self, s: Short) -> MemFault
         requires sound { IsSound H.Host self.old }
-        requires used { is_used ((core_of self.old.parts).entries s.0).state ≡ true }
-        ensures is { result ≡ MemFault.Damaged NOWHERE ((core_of self.old.parts).entries s.0).name }
+        requires used { is_used ((loom_core self.old).entries s.0).state ≡ true }
+        ensures is { result ≡ MemFault.Damaged NOWHERE ((loom_core self.old).entries s.0).name }
         ensures sound { LeavesAll result (IsSound H.Host self.new) }
         ensures err { (t : Told) (a : Access) → IsQuiet t (loom_told H.Host self.old) → IsReady t → IsSilent a → makes a ≡ 0 → (IsTrue t.tells → ⊥) → IsRefused t (loom_told H.Host self.new) a result }
         ensures brings { fetched self.new ≡ fetched self.old }
-        ensures lender { self.new.disk.host.ghost_name ≡ self.old.disk.host.ghost_name }
+        ensures lender { loom_lender self.new ≡ loom_lender self.old }
         ensures outside { loom_outside H.Host self.new ≡ loom_outside H.Host self.old }
     {
-        let name = self.parts.names.table.used_entry(s).name;
+        let name = self.pager.levels.parts.names.table.used_entry(s).name;
         self.wrong(name)
     }
 
@@ -62,7 +61,7 @@ impl<'h, H: Host> LoomMemory<'h, H> {
     {
         match self.load(of) {
             Ok(s) => {
-                let e = self.parts.names.table.used_entry(s);
+                let e = self.pager.levels.parts.names.table.used_entry(s);
                 self.put_word(to, e.class.0);
                 Ok(())
             }
@@ -83,7 +82,7 @@ impl<'h, H: Host> LoomMemory<'h, H> {
         ensures fit { StaysCallable (IsSound H.Host) (loom_told H.Host) loom_lender (loom_outside H.Host) self.old self.new result }
     {
         match self.load(of) {
-            Ok(s) => Ok(self.parts.names.table.used_entry(s).kind),
+            Ok(s) => Ok(self.pager.levels.parts.names.table.used_entry(s).kind),
             Err(f) => Err(f),
         }
     }
@@ -102,7 +101,7 @@ impl<'h, H: Host> LoomMemory<'h, H> {
         ensures fit { StaysCallable (IsSound H.Host) (loom_told H.Host) loom_lender (loom_outside H.Host) self.old self.new result }
     {
         match self.load(of) {
-            Ok(s) => Ok(self.parts.names.table.used_entry(s).len),
+            Ok(s) => Ok(self.pager.levels.parts.names.table.used_entry(s).len),
             Err(f) => Err(f),
         }
     }
@@ -119,7 +118,7 @@ impl<'h, H: Host> LoomMemory<'h, H> {
         if !is_name(w) {
             return None;
         }
-        field_count_at(&self.parts, Short(w))
+        field_count_at(&self.pager.levels.parts, Short(w))
     }
 
     /// A method's header. The method has as many literals as it says.
@@ -137,7 +136,7 @@ impl<'h, H: Host> LoomMemory<'h, H> {
         ensures fit { StaysCallable (IsSound H.Host) (loom_told H.Host) loom_lender (loom_outside H.Host) self.old self.new result }
     {
         match self.load(of) {
-            Ok(s) => match header_at(&self.parts, s) {
+            Ok(s) => match header_at(&self.pager.levels.parts, s) {
                 Some(header) => Ok(header),
                 None => Err(self.amiss(s)),
             },
@@ -157,7 +156,7 @@ impl<'h, H: Host> LoomMemory<'h, H> {
         ensures fit { StaysCallable (IsSound H.Host) (loom_told H.Host) loom_lender (loom_outside H.Host) self.old self.new result }
     {
         match self.load(of) {
-            Ok(s) => match word_at(&self.parts, s, i) {
+            Ok(s) => match word_at(&self.pager.levels.parts, s, i) {
                 Some(w) => Ok(w),
                 None => Err(self.amiss(s)),
             },
@@ -177,7 +176,7 @@ impl<'h, H: Host> LoomMemory<'h, H> {
         ensures fit { StaysCallable (IsSound H.Host) (loom_told H.Host) loom_lender (loom_outside H.Host) self.old self.new result }
     {
         match self.load(of) {
-            Ok(s) => match byte_at(&self.parts, s, i) {
+            Ok(s) => match byte_at(&self.pager.levels.parts, s, i) {
                 Some(b) => Ok(b),
                 None => Err(self.amiss(s)),
             },
@@ -197,7 +196,7 @@ impl<'h, H: Host> LoomMemory<'h, H> {
         if !is_name(w) {
             return None;
         }
-        code_byte_at(&self.parts, Short(w), place)
+        code_byte_at(&self.pager.levels.parts, Short(w), place)
     }
 
     /// A run of words from a place on. An empty run needs the place to be at most the length.
@@ -214,7 +213,7 @@ impl<'h, H: Host> LoomMemory<'h, H> {
     {
         match self.load(of) {
             Ok(s) => {
-                if words_into(&self.parts, s, at, out) {
+                if words_into(&self.pager.levels.parts, s, at, out) {
                     return Ok(());
                 }
                 Err(self.amiss(s))
@@ -236,7 +235,7 @@ impl<'h, H: Host> LoomMemory<'h, H> {
     {
         match self.load(of) {
             Ok(s) => {
-                if bytes_into(&self.parts, s, at, out) {
+                if bytes_into(&self.pager.levels.parts, s, at, out) {
                     return Ok(());
                 }
                 Err(self.amiss(s))

@@ -2,7 +2,6 @@
 ghost use Rattle.std.specs.Prelude.{◌≡◌, ◌≢◌, ◌/◌, ◌%◌, ◌↔◌, [], true, IsTrue, IfSome};
 ghost use Rattle.object_table.specs.Entries.{is_short, is_used};
 ghost use Rattle.core_view.specs.Words.{meant};
-ghost use Rattle.leaf_lambda.specs.Parts.{core_of};
 
 use crate::memory::LoomMemory;
 use leaf_lambda::fields::is_name;
@@ -20,7 +19,7 @@ impl<'h, H: Host> LoomMemory<'h, H> {
     ghost use Rattle.long_names.specs.declared.value.Value.TheVariants.{Int};
     ghost use Rattle.object_memory.specs.Told.{has_slot};
     ghost use Rattle.object_memory.specs.Fit.{KeepsCallable};
-    ghost use Rattle.loom_memory.specs.Memory.{loom_told, loom_outside, loom_lender, word_in, IsSound};
+    ghost use Rattle.loom_memory.specs.Memory.{loom_told, loom_outside, loom_lender, word_in, loom_core, loom_rest, IsSound};
     ghost use Rattle.loom_memory.specs.Gentle.{IsSteady};
     ghost use Rattle.loom_memory.specs.Thinned.{StaysThinned};
 
@@ -30,7 +29,7 @@ impl<'h, H: Host> LoomMemory<'h, H> {
         requires { IsSound H.Host self.now }
         ensures word { result ≡ word_in self.now.regs r }
         ensures some { result ≢ 0 }
-        ensures used { is_short result ≡ true → is_used ((core_of self.now.parts).entries result).state ≡ true }
+        ensures used { is_short result ≡ true → is_used ((loom_core self.now).entries result).state ≡ true }
     {
         self.regs[r.index()]
     }
@@ -44,7 +43,15 @@ impl<'h, H: Host> LoomMemory<'h, H> {
     {
         let w = self.word_of(r);
         if is_name(w) {
-            return Value::from(self.parts.names.table.used_entry(Short(w)).name);
+            return Value::from(
+                self.pager
+                    .levels
+                    .parts
+                    .names
+                    .table
+                    .used_entry(Short(w))
+                    .name,
+            );
         }
         Value::Int(int_short(w))
     }
@@ -53,34 +60,35 @@ impl<'h, H: Host> LoomMemory<'h, H> {
     #[inline(always)]
     fn note_use(&mut self, w: u16)
         requires sound { IsSound H.Host self.old }
-        requires used { is_short w ≡ true → is_used ((core_of self.old.parts).entries w).state ≡ true }
+        requires used { is_short w ≡ true → is_used ((loom_core self.old).entries w).state ≡ true }
         ensures told { loom_told H.Host self.new ≡ loom_told H.Host self.old }
         ensures sound { IsSound H.Host self.new }
-        ensures used { is_short w ≡ true → is_used ((core_of self.new.parts).entries w).state ≡ true }
-        ensures means { meant (core_of self.new.parts).entries [] 0 w ≡ meant (core_of self.old.parts).entries [] 0 w }
-        ensures disk { self.new.disk ≡ self.old.disk }
+        ensures used { is_short w ≡ true → is_used ((loom_core self.new).entries w).state ≡ true }
+        ensures means { meant (loom_core self.new).entries [] 0 w ≡ meant (loom_core self.old).entries [] 0 w }
+        ensures disk { self.new.pager.levels.disk ≡ self.old.pager.levels.disk }
         ensures steady { IsSteady H.Host self.old self.new }
         ensures due { self.new.due ≡ self.old.due }
         ensures flag { self.new.thinned ≡ self.old.thinned }
         ensures regs { self.new.regs ≡ self.old.regs }
         ensures outside { loom_outside H.Host self.new ≡ loom_outside H.Host self.old }
     {
-        touch(&mut self.parts, w);
+        let levels = &mut self.pager.levels;
+        touch(&mut levels.parts, w);
     }
 
     // Another word in a register, and what it names was used.
     #[inline(always)]
     pub(crate) fn put_word(&mut self, to: Reg, w: u16)
         requires sound { IsSound H.Host self.old }
-        requires used { is_short w ≡ true → is_used ((core_of self.old.parts).entries w).state ≡ true }
+        requires used { is_short w ≡ true → is_used ((loom_core self.old).entries w).state ≡ true }
         requires some { w ≢ 0 }
-        ensures told { loom_told H.Host self.new ≡ record (loom_told H.Host self.old) { regs = set_register (loom_told H.Host self.old).regs to (meant (core_of self.old.parts).entries [] 0 w) } }
+        ensures told { loom_told H.Host self.new ≡ record (loom_told H.Host self.old) { regs = set_register (loom_told H.Host self.old).regs to (meant (loom_core self.old).entries [] 0 w) } }
         ensures sound { IsSound H.Host self.new }
-        ensures disk { self.new.disk.rest ≡ self.old.disk.rest }
+        ensures disk { loom_rest self.new ≡ loom_rest self.old }
         ensures steady { IsSteady H.Host self.old self.new }
         ensures due { self.new.due ≡ self.old.due }
         ensures stays { StaysThinned self.old self.new (word_in self.old.regs to) }
-        ensures lender { self.new.disk.host.ghost_name ≡ self.old.disk.host.ghost_name }
+        ensures lender { loom_lender self.new ≡ loom_lender self.old }
         ensures outside { loom_outside H.Host self.new ≡ loom_outside H.Host self.old }
     {
         self.note_use(w);
@@ -92,12 +100,12 @@ impl<'h, H: Host> LoomMemory<'h, H> {
     #[inline(never)]
     fn put_apart(&mut self, to: Reg)
         requires { IsSound H.Host self.old }
-        ensures told { loom_told H.Host self.new ≡ record (loom_told H.Host self.old) { regs = set_register (loom_told H.Host self.old).regs to (meant (core_of self.old.parts).entries [] 0 1) } }
+        ensures told { loom_told H.Host self.new ≡ record (loom_told H.Host self.old) { regs = set_register (loom_told H.Host self.old).regs to (meant (loom_core self.old).entries [] 0 1) } }
         ensures sound { IsSound H.Host self.new }
         ensures steady { IsSteady H.Host self.old self.new }
         ensures due { self.new.due ≡ self.old.due }
         ensures stays { StaysThinned self.old self.new (word_in self.old.regs to) }
-        ensures lender { self.new.disk.host.ghost_name ≡ self.old.disk.host.ghost_name }
+        ensures lender { loom_lender self.new ≡ loom_lender self.old }
         ensures outside { loom_outside H.Host self.new ≡ loom_outside H.Host self.old }
     {
         self.put_word(to, 1);
@@ -108,12 +116,12 @@ impl<'h, H: Host> LoomMemory<'h, H> {
     fn put_number(&mut self, to: Reg, w: u16)
         requires sound { IsSound H.Host self.old }
         requires odd { w % 2 ≡ 1 }
-        ensures told { loom_told H.Host self.new ≡ record (loom_told H.Host self.old) { regs = set_register (loom_told H.Host self.old).regs to (meant (core_of self.old.parts).entries [] 0 w) } }
+        ensures told { loom_told H.Host self.new ≡ record (loom_told H.Host self.old) { regs = set_register (loom_told H.Host self.old).regs to (meant (loom_core self.old).entries [] 0 w) } }
         ensures sound { IsSound H.Host self.new }
         ensures steady { IsSteady H.Host self.old self.new }
         ensures due { self.new.due ≡ self.old.due }
         ensures stays { StaysThinned self.old self.new (word_in self.old.regs to) }
-        ensures lender { self.new.disk.host.ghost_name ≡ self.old.disk.host.ghost_name }
+        ensures lender { loom_lender self.new ≡ loom_lender self.old }
         ensures outside { loom_outside H.Host self.new ≡ loom_outside H.Host self.old }
     {
         if w == 1 {
@@ -210,6 +218,6 @@ impl<'h, H: Host> LoomMemory<'h, H> {
         ensures { result ≡ has_slot (loom_told H.Host self.now).slots (name_at ((loom_told H.Host self.now).regs r)) }
     {
         let w = self.word_of(r);
-        self.pinned.has(Short(w))
+        self.pager.pinned.has(Short(w))
     }
 }

@@ -17,8 +17,8 @@ impl<'h, H: Host> LoomMemory<'h, H> {
         ensures sum { result ≡ words_resident self.now }
         ensures most { ForBounds (loom_told H.Host self.now).bounds (λ b. result ≤ b.core) }
     {
-        chunks_never_overlap(&self.parts.segment);
-        let free = self.parts.segment.free_words();
+        chunks_never_overlap(&self.pager.levels.parts.segment);
+        let free = self.pager.levels.parts.segment.free_words();
         self.ledger.core - free
     }
 
@@ -27,8 +27,16 @@ impl<'h, H: Host> LoomMemory<'h, H> {
         requires { IsSound H.Host self.now }
         ensures { result ≡ is_resident self.now name }
     {
-        match self.parts.names.resident.find(name) {
-            Some(s) => self.parts.names.table.used_entry(s).place().is_some(),
+        match self.pager.levels.parts.names.resident.find(name) {
+            Some(s) => self
+                .pager
+                .levels
+                .parts
+                .names
+                .table
+                .used_entry(s)
+                .place()
+                .is_some(),
             None => false,
         }
     }

@@ -1,7 +1,6 @@
 // What an object says joins the transcript.
 ghost use Rattle.std.specs.Prelude.{◌≡◌, ◌+◌, ◌≤◌, ◌<◌, ◌^◌, ℕ, Some, List, true, false, IsTrue, OnOk, IfErr, length, take, drop};
 ghost use Rattle.long_names.specs.declared.object.Kind.TheVariants as kinds;
-ghost use Rattle.leaf_lambda.specs.Parts.{core_of};
 
 use crate::bodies::bytes_into;
 use crate::memory::LoomMemory;
@@ -44,7 +43,7 @@ impl<'h, H: Host> LoomMemory<'h, H> {
     ghost use Rattle.object_memory.specs.Told.{Told, IsReady};
     ghost use Rattle.object_memory.specs.Contract.{Accessed, ForBounds, MayDo, said_faults};
     ghost use Rattle.object_memory.specs.Fit.{MayCall, StaysCallable};
-    ghost use Rattle.loom_memory.specs.Memory.{loom_told, loom_outside, loom_lender, IsSound, IsRefused};
+    ghost use Rattle.loom_memory.specs.Memory.{loom_told, loom_outside, loom_lender, loom_core, loom_parts, IsSound, IsRefused};
     ghost use Rattle.loom_memory.specs.Says.{IsPut, IsSaid, IsSpeech, IsText};
 
     // A run of bytes joins the transcript. Where that fails some of its first bytes may have, and how often calls on the transcript
@@ -56,16 +55,17 @@ impl<'h, H: Host> LoomMemory<'h, H> {
         ensures count { IfErr result (λ count. ForBounds (loom_told H.Host self.new).bounds (λ b. b.said_faults ≡ count)) }
         ensures rose { IfErr result (λ count. Rose (said_faults (loom_told H.Host self.old).bounds) (said_faults (loom_told H.Host self.new).bounds)) }
         ensures sound { IsSound H.Host self.new }
-        ensures parts { self.new.parts ≡ self.old.parts }
+        ensures parts { loom_parts self.new ≡ loom_parts self.old }
         ensures regs { self.new.regs ≡ self.old.regs }
         ensures speech { IsSpeech H.Host self.old self.new }
         ensures brings { fetched self.new ≡ fetched self.old }
-        ensures lender { self.new.disk.host.ghost_name ≡ self.old.disk.host.ghost_name }
+        ensures lender { loom_lender self.new ≡ loom_lender self.old }
         ensures outside { loom_outside H.Host self.new ≡ loom_outside H.Host self.old }
     {
-        match self.disk.write_to(Role::Transcript, run) {
+        let levels = &mut self.pager.levels;
+        match levels.disk.write_to(Role::Transcript, run) {
             Ok(()) => Ok(()),
-            Err(_) => Err(self.disk.fault_count(Role::Transcript)),
+            Err(_) => Err(levels.disk.fault_count(Role::Transcript)),
         }
     }
 
@@ -78,11 +78,11 @@ impl<'h, H: Host> LoomMemory<'h, H> {
         ensures err { IfErr result (λ f. (t : Told) → IsReady t → IsSaid t (loom_told H.Host self.old) of i → IsRefused t (loom_told H.Host self.new) (Say of) f) }
         ensures undamaged { IfErr result IsUndamaged }
         ensures sound { IsSound H.Host self.new }
-        ensures parts { OnOk result (self.new.parts ≡ self.old.parts) }
+        ensures parts { OnOk result (loom_parts self.new ≡ loom_parts self.old) }
         ensures regs { OnOk result (self.new.regs ≡ self.old.regs) }
         ensures speech { OnOk result (IsSpeech H.Host self.old self.new) }
         ensures brings { fetched self.new ≡ fetched self.old }
-        ensures lender { self.new.disk.host.ghost_name ≡ self.old.disk.host.ghost_name }
+        ensures lender { loom_lender self.new ≡ loom_lender self.old }
         ensures outside { loom_outside H.Host self.new ≡ loom_outside H.Host self.old }
     {
         match self.put_run(run) {
@@ -102,20 +102,20 @@ impl<'h, H: Host> LoomMemory<'h, H> {
     ) -> Result<(), MemFault>
         requires sound { IsSound H.Host self.old }
         requires text { IsText H.Host self.old of s.0 }
-        requires within { i + count ≤ ((core_of self.old.parts).entries s.0).len }
+        requires within { i + count ≤ ((loom_core self.old).entries s.0).len }
         requires long { length piece.old ≡ count }
         requires some { 0 < count }
         ensures said { OnOk result ((t : Told) → IsSaid t (loom_told H.Host self.old) of i → IsSaid t (loom_told H.Host self.new) of (i + count)) }
         ensures err { IfErr result (λ f. (t : Told) → IsReady t → IsSaid t (loom_told H.Host self.old) of i → IsRefused t (loom_told H.Host self.new) (Say of) f) }
         ensures undamaged { IfErr result IsUndamaged }
         ensures sound { IsSound H.Host self.new }
-        ensures parts { OnOk result (self.new.parts ≡ self.old.parts) }
+        ensures parts { OnOk result (loom_parts self.new ≡ loom_parts self.old) }
         ensures speech { OnOk result (IsSpeech H.Host self.old self.new) }
         ensures brings { fetched self.new ≡ fetched self.old }
-        ensures lender { self.new.disk.host.ghost_name ≡ self.old.disk.host.ghost_name }
+        ensures lender { loom_lender self.new ≡ loom_lender self.old }
         ensures outside { loom_outside H.Host self.new ≡ loom_outside H.Host self.old }
     {
-        let _all = bytes_into(&self.parts, s, i, piece);
+        let _all = bytes_into(&self.pager.levels.parts, s, i, piece);
         self.say_piece(of, i, piece)
     }
 
@@ -123,17 +123,17 @@ impl<'h, H: Host> LoomMemory<'h, H> {
     fn say_from(&mut self, of: Reg, s: Short, i: u32, count: u32) -> Result<(), MemFault>
         requires sound { IsSound H.Host self.old }
         requires text { IsText H.Host self.old of s.0 }
-        requires within { i + count ≤ ((core_of self.old.parts).entries s.0).len }
+        requires within { i + count ≤ ((loom_core self.old).entries s.0).len }
         requires few { count ≤ 256 }
         requires some { 0 < count }
         ensures said { OnOk result ((t : Told) → IsSaid t (loom_told H.Host self.old) of i → IsSaid t (loom_told H.Host self.new) of (i + count)) }
         ensures err { IfErr result (λ f. (t : Told) → IsReady t → IsSaid t (loom_told H.Host self.old) of i → IsRefused t (loom_told H.Host self.new) (Say of) f) }
         ensures undamaged { IfErr result IsUndamaged }
         ensures sound { IsSound H.Host self.new }
-        ensures parts { OnOk result (self.new.parts ≡ self.old.parts) }
+        ensures parts { OnOk result (loom_parts self.new ≡ loom_parts self.old) }
         ensures speech { OnOk result (IsSpeech H.Host self.old self.new) }
         ensures brings { fetched self.new ≡ fetched self.old }
-        ensures lender { self.new.disk.host.ghost_name ≡ self.old.disk.host.ghost_name }
+        ensures lender { loom_lender self.new ≡ loom_lender self.old }
         ensures outside { loom_outside H.Host self.new ≡ loom_outside H.Host self.old }
     {
         let mut piece = [0; PIECE as usize];
@@ -144,14 +144,14 @@ impl<'h, H: Host> LoomMemory<'h, H> {
     fn say_text(&mut self, of: Reg, s: Short, len: u32) -> Result<(), MemFault>
         requires sound { IsSound H.Host self.old }
         requires text { IsText H.Host self.old of s.0 }
-        requires len { len ≡ ((core_of self.old.parts).entries s.0).len }
+        requires len { len ≡ ((loom_core self.old).entries s.0).len }
         ensures said { OnOk result ((t : Told) → IsSaid t (loom_told H.Host self.old) of 0 → IsSaid t (loom_told H.Host self.new) of len) }
         ensures err { IfErr result (λ f. (t : Told) → IsReady t → IsSaid t (loom_told H.Host self.old) of 0 → IsRefused t (loom_told H.Host self.new) (Say of) f) }
         ensures undamaged { IfErr result IsUndamaged }
         ensures sound { IsSound H.Host self.new }
         ensures speech { OnOk result (IsSpeech H.Host self.old self.new) }
         ensures brings { fetched self.new ≡ fetched self.old }
-        ensures lender { self.new.disk.host.ghost_name ≡ self.old.disk.host.ghost_name }
+        ensures lender { loom_lender self.new ≡ loom_lender self.old }
         ensures outside { loom_outside H.Host self.new ≡ loom_outside H.Host self.old }
     {
         let mut i = 0;
@@ -179,7 +179,7 @@ impl<'h, H: Host> LoomMemory<'h, H> {
     {
         match self.load(of) {
             Ok(s) => {
-                let e = self.parts.names.table.used_entry(s);
+                let e = self.pager.levels.parts.names.table.used_entry(s);
                 if has_text(e.kind) {
                     return self.say_text(of, s, e.len);
                 }

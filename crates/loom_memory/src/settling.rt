@@ -17,8 +17,8 @@ use long_names::MAKINGS_BEFORE_FREEING;
 use loom_host::{Host, Role};
 use object_memory::MemFault;
 use object_table::Short;
+use purger::RoomFault;
 use purger::room::has_room;
-use purger::{RoomFault, drain};
 
 // 1 where the object of an entry has a body and no record.
 #[inline(always)]
@@ -67,7 +67,7 @@ impl<'h, H: Host> LoomMemory<'h, H> {
     ghost use Rattle.object_memory.specs.Fit.{MayCall, StaysCallable};
     ghost use Rattle.purger.specs.Draining.{KeepsHeld};
     ghost use Rattle.purger.specs.Purge.{HasRoom};
-    ghost use Rattle.loom_memory.specs.Memory.{loom_told, loom_outside, loom_lender, IsCalm, IsQuiet, IsRefused, IsSilent, IsSound};
+    ghost use Rattle.loom_memory.specs.Memory.{loom_told, loom_outside, loom_lender, loom_core, loom_parts, loom_pins, loom_rest, IsCalm, IsQuiet, IsRefused, IsSilent, IsSound};
     ghost use Rattle.loom_memory.specs.Numbers.{IsNumbered};
     ghost use Rattle.loom_memory.specs.Own.{HasRested, IsIdle, KeepsCache, MindsCache};
     ghost use Rattle.loom_memory.specs.Residents.{fetched, is_resident};
@@ -76,21 +76,21 @@ impl<'h, H: Host> LoomMemory<'h, H> {
 
     // How many objects are held, if they are no more than before.
     fn recount(&self) -> u32
-        requires { IsParts self.now.parts }
+        requires { IsParts (loom_parts self.now) }
         ensures most { result ≤ self.now.ledger.held }
-        ensures same { disk_held self.now.disk.rest + fresh_of (core_of self.now.parts) ≤ self.now.ledger.held → result ≡ disk_held self.now.disk.rest + fresh_of (core_of self.now.parts) }
+        ensures same { disk_held (loom_rest self.now) + fresh_of (loom_core self.now) ≤ self.now.ledger.held → result ≡ disk_held (loom_rest self.now) + fresh_of (loom_core self.now) }
     {
-        let fresh = count_fresh(&self.parts);
-        let all = self.disk.len().saturating_add(fresh);
+        let fresh = count_fresh(&self.pager.levels.parts);
+        let all = self.pager.levels.disk.len().saturating_add(fresh);
         least(all, self.ledger.held)
     }
 
     // The name from which on what is dead is looked for again where room is short: where few entries became free, as many objects are made
     // before as a 16th part of the entries that were in use. So where the living fill the core, it isn't searched at each making.
     fn due_after(&self, before: u16) -> u32
-        ensures soon { result ≤ self.now.ledger.next + entries_of self.now.parts.names.table / 8 }
+        ensures soon { result ≤ self.now.ledger.next + entries_of (loom_parts self.now).names.table / 8 }
     {
-        let table = &self.parts.names.table;
+        let table = &self.pager.levels.parts.names.table;
         let used = u32::from(table.entries().saturating_sub(before));
         let freed = u32::from(table.free().saturating_sub(before));
         if freed >= used / 32 {
@@ -110,28 +110,28 @@ impl<'h, H: Host> LoomMemory<'h, H> {
         ensures set { OnOk result (is_thinned self.new ≡ true) }
         ensures ledger { OnOk result (self.new.ledger ≡ record self.old.ledger { held = self.new.ledger.held }) }
         ensures less { OnOk result (self.new.ledger.held ≤ self.old.ledger.held) }
-        ensures pins { OnOk result (self.new.pinned ≡ self.old.pinned) }
+        ensures pins { OnOk result (loom_pins self.new ≡ loom_pins self.old) }
         ensures regs { OnOk result (self.new.regs ≡ self.old.regs) }
-        ensures calm { OnOk result (IsCalm self.old.pinned (core_of self.old.parts) (core_of self.new.parts)) }
-        ensures soon { OnOk result (self.new.due ≤ self.new.ledger.next + entries_of self.new.parts.names.table / 8) }
+        ensures calm { OnOk result (IsCalm (loom_pins self.old) (loom_core self.old) (loom_core self.new)) }
+        ensures soon { OnOk result (self.new.due ≤ self.new.ledger.next + entries_of (loom_parts self.new).names.table / 8) }
         ensures buf { self.new.buf ≡ self.old.buf }
         ensures access { IfErr result (λ f. (a : Access) → IsSilent a → makes a ≡ 0 → IsRefused (loom_told H.Host self.old) (loom_told H.Host self.new) a f) }
-        ensures limit { OnOk result (disk_room self.new.disk.rest ≡ disk_room self.old.disk.rest) }
+        ensures limit { OnOk result (disk_room (loom_rest self.new) ≡ disk_room (loom_rest self.old)) }
         ensures fetches { fetched self.new ≡ fetched self.old }
-        ensures bodies { OnOk result (IsTrue (H.tells Role.Work) → KeepsHeld (core_of self.old.parts) (core_of self.new.parts) (loom_told H.Host self.new).heap) }
-        ensures entries { OnOk result (spare_of self.old.parts ≤ spare_of self.new.parts) }
-        ensures words { OnOk result (free_of self.old.parts.segment ≤ free_of self.new.parts.segment) }
+        ensures bodies { OnOk result (IsTrue (H.tells Role.Work) → KeepsHeld (loom_core self.old) (loom_core self.new) (loom_told H.Host self.new).heap) }
+        ensures entries { OnOk result (spare_of (loom_parts self.old) ≤ spare_of (loom_parts self.new)) }
+        ensures words { OnOk result (free_of (loom_parts self.old).segment ≤ free_of (loom_parts self.new).segment) }
         ensures minds { OnOk result (MindsCache H.Host None self.old self.new (λ k. ⊥)) }
         ensures sound { KeepsSound result (IsSound H.Host self.new) }
         ensures making { IfErr result (IsRefusedMaking (loom_told H.Host self.old) (loom_told H.Host self.new)) }
         ensures settling { IfErr result (IsRefusedCall (loom_told H.Host self.old) (loom_told H.Host self.new) Settles) }
         ensures purging { IfErr result (λ f. Called {A = Unit {0}} (loom_told H.Host self.old) (loom_told H.Host self.new) Thins (Err f)) }
         ensures fault { IfErr result IsLost }
-        ensures lender { self.new.disk.host.ghost_name ≡ self.old.disk.host.ghost_name }
+        ensures lender { loom_lender self.new ≡ loom_lender self.old }
         ensures outside { loom_outside H.Host self.new ≡ loom_outside H.Host self.old }
     {
-        let before = self.parts.names.table.free();
-        match drain(&mut self.parts, &mut self.disk, &mut self.out) {
+        let before = self.pager.levels.parts.names.table.free();
+        match self.pager.drain() {
             Ok(()) => {
                 let held = self.recount();
                 self.ledger.held = held;
@@ -152,33 +152,33 @@ impl<'h, H: Host> LoomMemory<'h, H> {
         requires sound { IsSound H.Host self.old }
         requires ready { IsReady (loom_told H.Host self.old) }
         ensures thinned { OnOk result (HasThinned (loom_told H.Host self.old) (loom_told H.Host self.new)) }
-        ensures roomy { OnOk result (HasRoom self.old.parts words entries → self.new ≡ self.old) }
+        ensures roomy { OnOk result (HasRoom (loom_parts self.old) words entries → self.new ≡ self.old) }
         ensures gone { OnOk result (IsFreed H.Host self.old self.new words entries) }
-        ensures pins { OnOk result (self.new.pinned ≡ self.old.pinned) }
+        ensures pins { OnOk result (loom_pins self.new ≡ loom_pins self.old) }
         ensures regs { OnOk result (self.new.regs ≡ self.old.regs) }
-        ensures calm { OnOk result (IsCalm self.old.pinned (core_of self.old.parts) (core_of self.new.parts)) }
+        ensures calm { OnOk result (IsCalm (loom_pins self.old) (loom_core self.old) (loom_core self.new)) }
         ensures buf { self.new.buf ≡ self.old.buf }
         ensures access { IfErr result (λ f. (a : Access) → IsSilent a → makes a ≡ 0 → IsRefused (loom_told H.Host self.old) (loom_told H.Host self.new) a f) }
         ensures ledger { OnOk result (self.new.ledger ≡ record self.old.ledger { held = self.new.ledger.held }) }
         ensures less { OnOk result (self.new.ledger.held ≤ self.old.ledger.held) }
-        ensures limit { OnOk result (disk_room self.new.disk.rest ≡ disk_room self.old.disk.rest) }
+        ensures limit { OnOk result (disk_room (loom_rest self.new) ≡ disk_room (loom_rest self.old)) }
         ensures fetches { fetched self.new ≡ fetched self.old }
-        ensures bodies { OnOk result (IsTrue (H.tells Role.Work) → KeepsHeld (core_of self.old.parts) (core_of self.new.parts) (loom_told H.Host self.new).heap) }
-        ensures entries { OnOk result (spare_of self.old.parts ≤ spare_of self.new.parts) }
-        ensures words { OnOk result (free_of self.old.parts.segment ≤ free_of self.new.parts.segment) }
+        ensures bodies { OnOk result (IsTrue (H.tells Role.Work) → KeepsHeld (loom_core self.old) (loom_core self.new) (loom_told H.Host self.new).heap) }
+        ensures entries { OnOk result (spare_of (loom_parts self.old) ≤ spare_of (loom_parts self.new)) }
+        ensures words { OnOk result (free_of (loom_parts self.old).segment ≤ free_of (loom_parts self.new).segment) }
         ensures minds { OnOk result (MindsCache H.Host None self.old self.new (λ k. ⊥)) }
         ensures sound { KeepsSound result (IsSound H.Host self.new) }
-        ensures sure { IfErr result (λ f. HasRoom self.old.parts words entries → ⊥) }
+        ensures sure { IfErr result (λ f. HasRoom (loom_parts self.old) words entries → ⊥) }
         ensures making { IfErr result (IsRefusedMaking (loom_told H.Host self.old) (loom_told H.Host self.new)) }
         ensures settling { IfErr result (IsRefusedCall (loom_told H.Host self.old) (loom_told H.Host self.new) Settles) }
         ensures fault { IfErr result IsLost }
         ensures due { OnOk result (IsOnTime H.Host self.old self.new) }
         ensures lasts { self.old.thinned ≡ true → self.new ≡ self.old }
         ensures still { OnOk result (IsAlive (loom_told H.Host self.old) → IsAlive (loom_told H.Host self.new)) }
-        ensures lender { self.new.disk.host.ghost_name ≡ self.old.disk.host.ghost_name }
+        ensures lender { loom_lender self.new ≡ loom_lender self.old }
         ensures outside { loom_outside H.Host self.new ≡ loom_outside H.Host self.old }
     {
-        if has_room(&self.parts, words, entries) {
+        if has_room(&self.pager.levels.parts, words, entries) {
             return Ok(());
         }
         if self.thinned {
@@ -194,12 +194,12 @@ impl<'h, H: Host> LoomMemory<'h, H> {
     #[inline(always)]
     fn count_anew(&mut self, base: Option<u32>)
         requires sound { IsSound H.Host self.old }
-        requires numbers { IsNumbered base 0 self.old.ledger.held self.old.ledger.next (disk_room self.old.disk.rest) }
+        requires numbers { IsNumbered base 0 self.old.ledger.held self.old.ledger.next (disk_room (loom_rest self.old)) }
         ensures begun { HasBegun (loom_told H.Host self.old) (loom_told H.Host self.new) base }
         ensures ledger { self.new.ledger ≡ record self.old.ledger { base = base; made = 0 } }
         ensures sound { IsSound H.Host self.new }
-        ensures parts { self.new.parts ≡ self.old.parts }
-        ensures disk { self.new.disk ≡ self.old.disk }
+        ensures parts { loom_parts self.new ≡ loom_parts self.old }
+        ensures disk { self.new.pager.levels.disk ≡ self.old.pager.levels.disk }
         ensures same { self.new ≡ record self.old { ledger = record self.old.ledger { base = base; made = 0 } } }
     {
         self.ledger.base = base;
@@ -210,21 +210,21 @@ impl<'h, H: Host> LoomMemory<'h, H> {
     fn settle_roomy(&mut self) -> Result<(), MemFault>
         requires sound { IsSound H.Host self.old }
         requires ready { IsReady (loom_told H.Host self.old) }
-        requires room { self.old.ledger.held + MAKINGS ≤ disk_room self.old.disk.rest }
+        requires room { self.old.ledger.held + MAKINGS ≤ disk_room (loom_rest self.old) }
         ensures settled { OnOk result (HasSettled (loom_told H.Host self.old) (loom_told H.Host self.new)) }
         ensures none { OnOk result (self.new.ledger.made ≡ 0) }
         ensures base { OnOk result (self.new.ledger.base ≡ None) }
         ensures fetches { fetched self.new ≡ fetched self.old }
-        ensures bodies { OnOk result (IsTrue (H.tells Role.Work) → KeepsHeld (core_of self.old.parts) (core_of self.new.parts) (loom_told H.Host self.new).heap) }
-        ensures entries { OnOk result (spare_of self.old.parts ≤ spare_of self.new.parts) }
+        ensures bodies { OnOk result (IsTrue (H.tells Role.Work) → KeepsHeld (loom_core self.old) (loom_core self.new) (loom_told H.Host self.new).heap) }
+        ensures entries { OnOk result (spare_of (loom_parts self.old) ≤ spare_of (loom_parts self.new)) }
         ensures gone { OnOk result (IsFreed H.Host self.old self.new 0 SETTLED) }
         ensures minds { OnOk result (MindsCache H.Host None self.old self.new (λ k. ⊥)) }
-        ensures rests { SETTLED ≤ spare_of self.old.parts → HasRested self.old self.new result }
+        ensures rests { SETTLED ≤ spare_of (loom_parts self.old) → HasRested self.old self.new result }
         ensures sound { KeepsSound result (IsSound H.Host self.new) }
         ensures err { IfErr result (IsRefusedCall (loom_told H.Host self.old) (loom_told H.Host self.new) Settles) }
         ensures due { OnOk result (IsOnTime H.Host self.old self.new) }
         ensures flag { OnOk result (KeepsThinned self.old self.new) }
-        ensures lender { self.new.disk.host.ghost_name ≡ self.old.disk.host.ghost_name }
+        ensures lender { loom_lender self.new ≡ loom_lender self.old }
         ensures outside { loom_outside H.Host self.new ≡ loom_outside H.Host self.old }
     {
         match self.free_first(0, RESERVE) {
@@ -242,24 +242,24 @@ impl<'h, H: Host> LoomMemory<'h, H> {
         requires ready { IsReady (loom_told H.Host self.old) }
         ensures settled { OnOk result (HasSettled (loom_told H.Host self.old) (loom_told H.Host self.new)) }
         ensures none { OnOk result (self.new.ledger.made ≡ 0) }
-        ensures room { self.old.ledger.held + MAKINGS ≤ disk_room self.old.disk.rest → OnOk result ((self.new.ledger.base ≡ None) × (SETTLED ≤ spare_of self.old.parts → self.new.ledger.held ≡ self.old.ledger.held)) }
-        ensures full { disk_room self.old.disk.rest < self.old.ledger.held + MAKINGS → OnOk result (self.new.ledger.base ≡ Some self.new.ledger.held) }
-        ensures thins { disk_room self.old.disk.rest < self.old.ledger.held + MAKINGS → OnOk result (is_thinned self.new ≡ true) }
-        ensures lasts { disk_room self.old.disk.rest < self.old.ledger.held + MAKINGS → is_thinned self.old ≡ true → HasLasted self.old self.new result }
+        ensures room { self.old.ledger.held + MAKINGS ≤ disk_room (loom_rest self.old) → OnOk result ((self.new.ledger.base ≡ None) × (SETTLED ≤ spare_of (loom_parts self.old) → self.new.ledger.held ≡ self.old.ledger.held)) }
+        ensures full { disk_room (loom_rest self.old) < self.old.ledger.held + MAKINGS → OnOk result (self.new.ledger.base ≡ Some self.new.ledger.held) }
+        ensures thins { disk_room (loom_rest self.old) < self.old.ledger.held + MAKINGS → OnOk result (is_thinned self.new ≡ true) }
+        ensures lasts { disk_room (loom_rest self.old) < self.old.ledger.held + MAKINGS → is_thinned self.old ≡ true → HasLasted self.old self.new result }
         ensures fetches { fetched self.new ≡ fetched self.old }
-        ensures bodies { OnOk result (IsTrue (H.tells Role.Work) → KeepsHeld (core_of self.old.parts) (core_of self.new.parts) (loom_told H.Host self.new).heap) }
-        ensures entries { OnOk result (spare_of self.old.parts ≤ spare_of self.new.parts) }
-        ensures gone { self.old.ledger.held + MAKINGS ≤ disk_room self.old.disk.rest → OnOk result (IsFreed H.Host self.old self.new 0 SETTLED) }
+        ensures bodies { OnOk result (IsTrue (H.tells Role.Work) → KeepsHeld (loom_core self.old) (loom_core self.new) (loom_told H.Host self.new).heap) }
+        ensures entries { OnOk result (spare_of (loom_parts self.old) ≤ spare_of (loom_parts self.new)) }
+        ensures gone { self.old.ledger.held + MAKINGS ≤ disk_room (loom_rest self.old) → OnOk result (IsFreed H.Host self.old self.new 0 SETTLED) }
         ensures minds { OnOk result (IsTrue (H.tells Role.Work) → MindsCache H.Host None self.old self.new (λ k. ⊥)) }
-        ensures rests { self.old.ledger.held + MAKINGS ≤ disk_room self.old.disk.rest → SETTLED ≤ spare_of self.old.parts → HasRested self.old self.new result }
+        ensures rests { self.old.ledger.held + MAKINGS ≤ disk_room (loom_rest self.old) → SETTLED ≤ spare_of (loom_parts self.old) → HasRested self.old self.new result }
         ensures sound { KeepsSound result (IsSound H.Host self.new) }
         ensures err { IfErr result (IsRefusedCall (loom_told H.Host self.old) (loom_told H.Host self.new) Settles) }
         ensures due { OnOk result (IsOnTime H.Host self.old self.new) }
         ensures flag { OnOk result (KeepsThinned self.old self.new) }
-        ensures lender { self.new.disk.host.ghost_name ≡ self.old.disk.host.ghost_name }
+        ensures lender { loom_lender self.new ≡ loom_lender self.old }
         ensures outside { loom_outside H.Host self.new ≡ loom_outside H.Host self.old }
     {
-        let room = self.disk.room();
+        let room = self.pager.levels.disk.room();
         if self.ledger.held + MAKINGS_BEFORE_FREEING <= room {
             return self.settle_roomy();
         }
@@ -279,9 +279,9 @@ impl<'h, H: Host> LoomMemory<'h, H> {
         requires ready { IsReady (loom_told H.Host self.old) }
         ensures quiet { OnOk result (IsQuiet (loom_told H.Host self.old) (loom_told H.Host self.new)) }
         ensures ledger { OnOk result (self.new.ledger ≡ self.old.ledger) }
-        ensures spare { OnOk result ((SETTLED ≤ spare_of self.new.parts) ⊎ IsBare self.new.pinned.a self.new.pinned.b self.new.pinned.d (core_of self.new.parts)) }
-        ensures stays { OnOk result (SETTLED ≤ spare_of self.old.parts → self.new ≡ self.old) }
-        ensures sure { IfErr result (λ f. SETTLED ≤ spare_of self.old.parts → ⊥) }
+        ensures spare { OnOk result ((SETTLED ≤ spare_of (loom_parts self.new)) ⊎ IsBare (loom_pins self.new).a (loom_pins self.new).b (loom_pins self.new).d (loom_core self.new)) }
+        ensures stays { OnOk result (SETTLED ≤ spare_of (loom_parts self.old) → self.new ≡ self.old) }
+        ensures sure { IfErr result (λ f. SETTLED ≤ spare_of (loom_parts self.old) → ⊥) }
         ensures fetches { fetched self.new ≡ fetched self.old }
         ensures thinned { is_thinned self.new ≡ is_thinned self.old }
         ensures minds { OnOk result (MindsCache H.Host None self.old self.new (λ k. ⊥)) }
@@ -290,10 +290,10 @@ impl<'h, H: Host> LoomMemory<'h, H> {
         ensures fault { IfErr result IsLost }
         ensures due { OnOk result (self.new.due ≡ self.old.due) }
         ensures flag { OnOk result (self.new.thinned ≡ self.old.thinned) }
-        ensures lender { self.new.disk.host.ghost_name ≡ self.old.disk.host.ghost_name }
+        ensures lender { loom_lender self.new ≡ loom_lender self.old }
         ensures outside { loom_outside H.Host self.new ≡ loom_outside H.Host self.old }
     {
-        if has_room(&self.parts, 0, RESERVE) {
+        if has_room(&self.pager.levels.parts, 0, RESERVE) {
             return Ok(());
         }
         match self.room(0, RESERVE) {
@@ -312,11 +312,12 @@ impl<'h, H: Host> LoomMemory<'h, H> {
     #[inline(always)]
     fn is_settled(&self) -> bool
         requires { IsSound H.Host self.now }
-        ensures yes { result ≡ true → (self.now.ledger.held + MAKINGS ≤ disk_room self.now.disk.rest) × (SETTLED ≤ spare_of self.now.parts) }
-        ensures no { result ≡ false → self.now.ledger.held + MAKINGS ≤ disk_room self.now.disk.rest → SETTLED ≤ spare_of self.now.parts → ⊥ }
+        ensures yes { result ≡ true → (self.now.ledger.held + MAKINGS ≤ disk_room (loom_rest self.now)) × (SETTLED ≤ spare_of (loom_parts self.now)) }
+        ensures no { result ≡ false → self.now.ledger.held + MAKINGS ≤ disk_room (loom_rest self.now) → SETTLED ≤ spare_of (loom_parts self.now) → ⊥ }
     {
-        let room = self.disk.room();
-        self.ledger.held + MAKINGS_BEFORE_FREEING <= room && has_room(&self.parts, 0, RESERVE)
+        let room = self.pager.levels.disk.room();
+        self.ledger.held + MAKINGS_BEFORE_FREEING <= room
+            && has_room(&self.pager.levels.parts, 0, RESERVE)
     }
 
     // Frees dead objects where the disk is nearly full, then entries where too few are free.
@@ -326,15 +327,15 @@ impl<'h, H: Host> LoomMemory<'h, H> {
         requires fit { MayCall (IsSound H.Host) (loom_told H.Host) self.old }
         ensures called { Called (loom_told H.Host self.old) (loom_told H.Host self.new) Settles result }
         ensures none { OnOk result (self.new.ledger.made ≡ 0) }
-        ensures room { self.old.ledger.held + MAKINGS ≤ disk_room self.old.disk.rest → OnOk result ((self.new.ledger.base ≡ None) × (SETTLED ≤ spare_of self.old.parts → self.new.ledger.held ≡ self.old.ledger.held)) }
-        ensures full { disk_room self.old.disk.rest < self.old.ledger.held + MAKINGS → OnOk result (self.new.ledger.base ≡ Some self.new.ledger.held) }
-        ensures thins { disk_room self.old.disk.rest < self.old.ledger.held + MAKINGS → OnOk result (is_thinned self.new ≡ true) }
-        ensures lasts { disk_room self.old.disk.rest < self.old.ledger.held + MAKINGS → is_thinned self.old ≡ true → SETTLED ≤ spare_of self.old.parts → HasLasted self.old self.new result }
-        ensures spare { OnOk result ((SETTLED ≤ spare_of self.new.parts) ⊎ IsBare self.new.pinned.a self.new.pinned.b self.new.pinned.d (core_of self.new.parts)) }
+        ensures room { self.old.ledger.held + MAKINGS ≤ disk_room (loom_rest self.old) → OnOk result ((self.new.ledger.base ≡ None) × (SETTLED ≤ spare_of (loom_parts self.old) → self.new.ledger.held ≡ self.old.ledger.held)) }
+        ensures full { disk_room (loom_rest self.old) < self.old.ledger.held + MAKINGS → OnOk result (self.new.ledger.base ≡ Some self.new.ledger.held) }
+        ensures thins { disk_room (loom_rest self.old) < self.old.ledger.held + MAKINGS → OnOk result (is_thinned self.new ≡ true) }
+        ensures lasts { disk_room (loom_rest self.old) < self.old.ledger.held + MAKINGS → is_thinned self.old ≡ true → SETTLED ≤ spare_of (loom_parts self.old) → HasLasted self.old self.new result }
+        ensures spare { OnOk result ((SETTLED ≤ spare_of (loom_parts self.new)) ⊎ IsBare (loom_pins self.new).a (loom_pins self.new).b (loom_pins self.new).d (loom_core self.new)) }
         ensures fetches { fetched self.new ≡ fetched self.old }
-        ensures stays { OnOk result (SETTLED ≤ spare_of self.old.parts → IsTrue (H.tells Role.Work) → (k : ℕ) → IsTrue (is_resident self.old k) → Has (loom_told H.Host self.new).heap k → IsTrue (is_resident self.new k)) }
-        ensures whole { self.old.ledger.held + MAKINGS ≤ disk_room self.old.disk.rest → SETTLED ≤ spare_of self.old.parts → OnOk result ((loom_told H.Host self.new).heap ≡ (loom_told H.Host self.old).heap) }
-        ensures gone { self.old.ledger.held + MAKINGS ≤ disk_room self.old.disk.rest → OnOk result (IsFreed H.Host self.old self.new 0 SETTLED) }
+        ensures stays { OnOk result (SETTLED ≤ spare_of (loom_parts self.old) → IsTrue (H.tells Role.Work) → (k : ℕ) → IsTrue (is_resident self.old k) → Has (loom_told H.Host self.new).heap k → IsTrue (is_resident self.new k)) }
+        ensures whole { self.old.ledger.held + MAKINGS ≤ disk_room (loom_rest self.old) → SETTLED ≤ spare_of (loom_parts self.old) → OnOk result ((loom_told H.Host self.new).heap ≡ (loom_told H.Host self.old).heap) }
+        ensures gone { self.old.ledger.held + MAKINGS ≤ disk_room (loom_rest self.old) → OnOk result (IsFreed H.Host self.old self.new 0 SETTLED) }
         ensures minds { OnOk result (IsTrue (H.tells Role.Work) → MindsCache H.Host None self.old self.new (λ k. ⊥)) }
         ensures due { OnOk result (IsOnTime H.Host self.old self.new) }
         ensures flag { OnOk result (KeepsThinned self.old self.new) }
@@ -357,19 +358,19 @@ impl<'h, H: Host> LoomMemory<'h, H> {
         requires fit { MayCall (IsSound H.Host) (loom_told H.Host) self.old }
         ensures called { Called (loom_told H.Host self.old) (loom_told H.Host self.new) Settles result }
         ensures none { OnOk result (self.new.ledger.made ≡ 0) }
-        ensures room { self.old.ledger.held + MAKINGS ≤ disk_room self.old.disk.rest → OnOk result ((self.new.ledger.base ≡ None) × (SETTLED ≤ spare_of self.old.parts → self.new.ledger.held ≡ self.old.ledger.held)) }
-        ensures full { disk_room self.old.disk.rest < self.old.ledger.held + MAKINGS → OnOk result (self.new.ledger.base ≡ Some self.new.ledger.held) }
-        ensures thins { disk_room self.old.disk.rest < self.old.ledger.held + MAKINGS → OnOk result (is_thinned self.new ≡ true) }
-        ensures lasts { disk_room self.old.disk.rest < self.old.ledger.held + MAKINGS → is_thinned self.old ≡ true → SETTLED ≤ spare_of self.old.parts → HasLasted self.old self.new result }
-        ensures spare { OnOk result ((SETTLED ≤ spare_of self.new.parts) ⊎ IsBare self.new.pinned.a self.new.pinned.b self.new.pinned.d (core_of self.new.parts)) }
+        ensures room { self.old.ledger.held + MAKINGS ≤ disk_room (loom_rest self.old) → OnOk result ((self.new.ledger.base ≡ None) × (SETTLED ≤ spare_of (loom_parts self.old) → self.new.ledger.held ≡ self.old.ledger.held)) }
+        ensures full { disk_room (loom_rest self.old) < self.old.ledger.held + MAKINGS → OnOk result (self.new.ledger.base ≡ Some self.new.ledger.held) }
+        ensures thins { disk_room (loom_rest self.old) < self.old.ledger.held + MAKINGS → OnOk result (is_thinned self.new ≡ true) }
+        ensures lasts { disk_room (loom_rest self.old) < self.old.ledger.held + MAKINGS → is_thinned self.old ≡ true → SETTLED ≤ spare_of (loom_parts self.old) → HasLasted self.old self.new result }
+        ensures spare { OnOk result ((SETTLED ≤ spare_of (loom_parts self.new)) ⊎ IsBare (loom_pins self.new).a (loom_pins self.new).b (loom_pins self.new).d (loom_core self.new)) }
         ensures fetches { fetched self.new ≡ fetched self.old }
-        ensures stays { OnOk result (SETTLED ≤ spare_of self.old.parts → IsTrue (H.tells Role.Work) → (k : ℕ) → IsTrue (is_resident self.old k) → Has (loom_told H.Host self.new).heap k → IsTrue (is_resident self.new k)) }
-        ensures whole { self.old.ledger.held + MAKINGS ≤ disk_room self.old.disk.rest → SETTLED ≤ spare_of self.old.parts → OnOk result ((loom_told H.Host self.new).heap ≡ (loom_told H.Host self.old).heap) }
-        ensures idle { self.old.ledger.held + MAKINGS ≤ disk_room self.old.disk.rest → SETTLED ≤ spare_of self.old.parts → OnOk result (IsIdle self.old self.new) }
-        ensures cached { self.old.ledger.held + MAKINGS ≤ disk_room self.old.disk.rest → SETTLED ≤ spare_of self.old.parts → OnOk result (KeepsCache H.Host self.old self.new) }
-        ensures gone { self.old.ledger.held + MAKINGS ≤ disk_room self.old.disk.rest → OnOk result (IsFreed H.Host self.old self.new 0 SETTLED) }
+        ensures stays { OnOk result (SETTLED ≤ spare_of (loom_parts self.old) → IsTrue (H.tells Role.Work) → (k : ℕ) → IsTrue (is_resident self.old k) → Has (loom_told H.Host self.new).heap k → IsTrue (is_resident self.new k)) }
+        ensures whole { self.old.ledger.held + MAKINGS ≤ disk_room (loom_rest self.old) → SETTLED ≤ spare_of (loom_parts self.old) → OnOk result ((loom_told H.Host self.new).heap ≡ (loom_told H.Host self.old).heap) }
+        ensures idle { self.old.ledger.held + MAKINGS ≤ disk_room (loom_rest self.old) → SETTLED ≤ spare_of (loom_parts self.old) → OnOk result (IsIdle self.old self.new) }
+        ensures cached { self.old.ledger.held + MAKINGS ≤ disk_room (loom_rest self.old) → SETTLED ≤ spare_of (loom_parts self.old) → OnOk result (KeepsCache H.Host self.old self.new) }
+        ensures gone { self.old.ledger.held + MAKINGS ≤ disk_room (loom_rest self.old) → OnOk result (IsFreed H.Host self.old self.new 0 SETTLED) }
         ensures minds { OnOk result (IsTrue (H.tells Role.Work) → MindsCache H.Host None self.old self.new (λ k. ⊥)) }
-        ensures rests { self.old.ledger.held + MAKINGS ≤ disk_room self.old.disk.rest → SETTLED ≤ spare_of self.old.parts → HasRested self.old self.new result }
+        ensures rests { self.old.ledger.held + MAKINGS ≤ disk_room (loom_rest self.old) → SETTLED ≤ spare_of (loom_parts self.old) → HasRested self.old self.new result }
         ensures due { OnOk result (IsOnTime H.Host self.old self.new) }
         ensures flag { OnOk result (KeepsThinned self.old self.new) }
         ensures fit { StaysCallable (IsSound H.Host) (loom_told H.Host) loom_lender (loom_outside H.Host) self.old self.new result }

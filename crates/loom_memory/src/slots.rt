@@ -1,6 +1,5 @@
 // Slots: what they name stays in the core.
 ghost use Rattle.std.specs.Prelude.{◌≡◌, ◌<◌, ℕ, None, false, OnOk};
-ghost use Rattle.leaf_lambda.specs.Parts.{core_of};
 ghost use Rattle.loom_memory.specs.Memory.{pin_in, with_pin};
 
 use crate::memory::LoomMemory;
@@ -41,7 +40,7 @@ impl<'h, H: Host> LoomMemory<'h, H> {
     ghost use Rattle.long_names.specs.Access.{Pin, Nothing};
     ghost use Rattle.object_memory.specs.Contract.{Accessed, MayDo};
     ghost use Rattle.object_memory.specs.Fit.{KeepsCallable, MayCall, StaysCallable};
-    ghost use Rattle.loom_memory.specs.Memory.{loom_told, loom_outside, loom_lender, name_if, IsPinned, IsSound};
+    ghost use Rattle.loom_memory.specs.Memory.{loom_told, loom_outside, loom_lender, name_if, loom_core, loom_pins, IsPinned, IsSound};
     ghost use Rattle.loom_memory.specs.Gentle.{IsSteady};
     ghost use Rattle.loom_memory.specs.Thinned.{StaysThinned};
     ghost use Rattle.loom_memory.specs.Damage.{IsDamaged};
@@ -54,20 +53,21 @@ impl<'h, H: Host> LoomMemory<'h, H> {
     fn put_slot(&mut self, slot: u8, w: u16)
         requires sound { IsSound H.Host self.old }
         requires slot { slot < 3 }
-        requires body { IsPinned (core_of self.old.parts) w }
-        ensures told { loom_told H.Host self.new ≡ record (loom_told H.Host self.old) { slots = set_slot (loom_told H.Host self.old).slots slot (name_if (core_of self.old.parts).entries w) } }
+        requires body { IsPinned (loom_core self.old) w }
+        ensures told { loom_told H.Host self.new ≡ record (loom_told H.Host self.old) { slots = set_slot (loom_told H.Host self.old).slots slot (name_if (loom_core self.old).entries w) } }
         ensures sound { IsSound H.Host self.new }
         ensures steady { IsSteady H.Host self.old self.new }
         ensures due { self.new.due ≡ self.old.due }
-        ensures stays { StaysThinned self.old self.new (pin_in self.old.pinned slot) }
-        ensures lender { self.new.disk.host.ghost_name ≡ self.old.disk.host.ghost_name }
+        ensures stays { StaysThinned self.old self.new (pin_in (loom_pins self.old) slot) }
+        ensures lender { loom_lender self.new ≡ loom_lender self.old }
         ensures outside { loom_outside H.Host self.new ≡ loom_outside H.Host self.old }
     {
-        hold_word(&mut self.parts, w);
-        let old = pin_at(&self.pinned, slot);
-        put_pin(&mut self.pinned, slot, w);
-        drop_word(&mut self.parts, old);
-        note_gone(&self.parts, &mut self.thinned, old);
+        let old = pin_at(&self.pager.pinned, slot);
+        put_pin(&mut self.pager.pinned, slot, w);
+        let levels = &mut self.pager.levels;
+        hold_word(&mut levels.parts, w);
+        drop_word(&mut levels.parts, old);
+        note_gone(&levels.parts, &mut self.thinned, old);
     }
 
     /// Empties the slot.
@@ -78,7 +78,7 @@ impl<'h, H: Host> LoomMemory<'h, H> {
         ensures told { loom_told H.Host self.new ≡ record (loom_told H.Host self.old) { slots = set_slot (loom_told H.Host self.old).slots slot None } }
         ensures steady { IsSteady H.Host self.old self.new }
         ensures due { self.new.due ≡ self.old.due }
-        ensures stays { StaysThinned self.old self.new (pin_in self.old.pinned slot) }
+        ensures stays { StaysThinned self.old self.new (pin_in (loom_pins self.old) slot) }
         ensures fit { KeepsCallable (IsSound H.Host) (loom_told H.Host) loom_lender (loom_outside H.Host) self.old self.new }
     {
         self.put_slot(slot, 0);

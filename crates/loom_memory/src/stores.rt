@@ -92,7 +92,7 @@ impl<'h, H: Host> LoomMemory<'h, H> {
     ghost use Rattle.object_memory.specs.Told.{IsReady};
     ghost use Rattle.object_memory.specs.Contract.{Accessed, Does, HasCore, IfBounds, KeepsSound, MayDo, makes};
     ghost use Rattle.object_memory.specs.Fit.{MayCall, StaysCallable};
-    ghost use Rattle.loom_memory.specs.Memory.{loom_told, loom_outside, loom_lender, word_in, IsSound, IsQuiet, IsSilent, IsRefused};
+    ghost use Rattle.loom_memory.specs.Memory.{loom_told, loom_outside, loom_lender, word_in, loom_core, loom_parts, loom_rest, IsSound, IsQuiet, IsSilent, IsRefused};
     ghost use Rattle.loom_memory.specs.Stores.{IsStored};
     ghost use Rattle.long_names.specs.State.{name_at};
     ghost use Rattle.loom_memory.specs.Damage.{IsDamageOf, IsDamaged};
@@ -108,23 +108,24 @@ impl<'h, H: Host> LoomMemory<'h, H> {
     #[inline(always)]
     fn unmark(&mut self, s: Short)
         requires sound { IsSound H.Host self.old }
-        requires used { is_used ((core_of self.old.parts).entries s.0).state ≡ true }
+        requires used { is_used ((loom_core self.old).entries s.0).state ≡ true }
         ensures quiet { IsQuiet (loom_told H.Host self.old) (loom_told H.Host self.new) }
         ensures sound { IsSound H.Host self.new }
         ensures regs { self.new.regs ≡ self.old.regs }
-        ensures gone { ((core_of self.new.parts).entries s.0).flags.marked ≡ false }
-        ensures place { place_of ((core_of self.new.parts).entries s.0).state ≡ place_of ((core_of self.old.parts).entries s.0).state }
+        ensures gone { ((loom_core self.new).entries s.0).flags.marked ≡ false }
+        ensures place { place_of ((loom_core self.new).entries s.0).state ≡ place_of ((loom_core self.old).entries s.0).state }
         ensures resting { IsResting self.old self.new }
-        ensures field { (at i w : ℕ) → IsAt (core_of self.old.parts) s.0 at i w → IsAt (core_of self.new.parts) s.0 at i w }
-        ensures idle { ((core_of self.old.parts).entries s.0).flags.marked ≡ false → self.new ≡ self.old }
-        ensures minds { MindsCache H.Host None self.old self.new (λ k. k ≡ ((core_of self.old.parts).entries s.0).name) }
-        ensures spare { spare_of self.new.parts ≡ spare_of self.old.parts }
+        ensures field { (at i w : ℕ) → IsAt (loom_core self.old) s.0 at i w → IsAt (loom_core self.new) s.0 at i w }
+        ensures idle { ((loom_core self.old).entries s.0).flags.marked ≡ false → self.new ≡ self.old }
+        ensures minds { MindsCache H.Host None self.old self.new (λ k. k ≡ ((loom_core self.old).entries s.0).name) }
+        ensures spare { spare_of (loom_parts self.new) ≡ spare_of (loom_parts self.old) }
         ensures due { self.new.due ≡ self.old.due }
         ensures flag { self.new.thinned ≡ self.old.thinned }
-        ensures lender { self.new.disk.host.ghost_name ≡ self.old.disk.host.ghost_name }
+        ensures lender { loom_lender self.new ≡ loom_lender self.old }
         ensures outside { loom_outside H.Host self.new ≡ loom_outside H.Host self.old }
     {
-        unmark_for(&mut self.parts, s);
+        let levels = &mut self.pager.levels;
+        unmark_for(&mut levels.parts, s);
     }
 
     // Brings the object of a register into the core, to be stored into: it isn't marked then.
@@ -136,8 +137,8 @@ impl<'h, H: Host> LoomMemory<'h, H> {
         ensures thinned { OnOk result (HasThinned (loom_told H.Host self.old) (loom_told H.Host self.new)) }
         ensures sound { KeepsSound result (IsSound H.Host self.new) }
         ensures word { IfOk result (λ s. s.0 ≡ word_in self.new.regs of) }
-        ensures there { IfOk result (λ s. (at : ℕ) × (place_of ((core_of self.new.parts).entries s.0).state ≡ Some at)) }
-        ensures gone { IfOk result (λ s. ((core_of self.new.parts).entries s.0).flags.marked ≡ false) }
+        ensures there { IfOk result (λ s. (at : ℕ) × (place_of ((loom_core self.new).entries s.0).state ≡ Some at)) }
+        ensures gone { IfOk result (λ s. ((loom_core self.new).entries s.0).flags.marked ≡ false) }
         ensures own { IsSparingChange H.Host self.old self.new (name_at ((loom_told H.Host self.old).regs of)) result }
         ensures cached { OnOk result (HasPlace H.Host self.old (name_at ((loom_told H.Host self.old).regs of)) → IsUnmarked H.Host self.old (name_at ((loom_told H.Host self.old).regs of)) → KeepsCache H.Host self.old self.new) }
         ensures minds { OnOk result (MindsCache H.Host None self.old self.new (λ k. k ≡ name_at ((loom_told H.Host self.old).regs of))) }
@@ -147,7 +148,7 @@ impl<'h, H: Host> LoomMemory<'h, H> {
         ensures err { IfErr result (λ f. (a : Access) → target_of a ≡ Some of → makes a ≡ 0 → IsSilent a → IsRefused (loom_told H.Host self.old) (loom_told H.Host self.new) a f) }
         ensures brings { BringsOne self.old self.new (is_resident self.old (name_at ((loom_told H.Host self.old).regs of)) ≡ false) }
         ensures regs { OnOk result (self.new.regs ≡ self.old.regs) }
-        ensures lender { self.new.disk.host.ghost_name ≡ self.old.disk.host.ghost_name }
+        ensures lender { loom_lender self.new ≡ loom_lender self.old }
         ensures outside { loom_outside H.Host self.new ≡ loom_outside H.Host self.old }
     {
         match self.load(of) {
@@ -167,9 +168,9 @@ impl<'h, H: Host> LoomMemory<'h, H> {
         ensures thinned { OnOk result (HasThinned (loom_told H.Host self.old) (loom_told H.Host self.new)) }
         ensures sound { KeepsSound result (IsSound H.Host self.new) }
         ensures word { IfOk result (λ s. s.0 ≡ word_in self.new.regs of) }
-        ensures there { IfOk result (λ s. (at : ℕ) × (place_of ((core_of self.new.parts).entries s.0).state ≡ Some at)) }
-        ensures gone { IfOk result (λ s. ((core_of self.new.parts).entries s.0).flags.marked ≡ false) }
-        ensures spare { OnOk result (SPARE_BEHIND_CLASS ≤ spare_of self.new.parts) }
+        ensures there { IfOk result (λ s. (at : ℕ) × (place_of ((loom_core self.new).entries s.0).state ≡ Some at)) }
+        ensures gone { IfOk result (λ s. ((loom_core self.new).entries s.0).flags.marked ≡ false) }
+        ensures spare { OnOk result (SPARE_BEHIND_CLASS ≤ spare_of (loom_parts self.new)) }
         ensures searched { OnOk result (IsSearchedChange H.Host self.old self.new (name_at ((loom_told H.Host self.old).regs of))) }
         ensures cached { OnOk result (HasSpace H.Host self.old (name_at ((loom_told H.Host self.old).regs of)) → IsUnmarked H.Host self.old (name_at ((loom_told H.Host self.old).regs of)) → KeepsCache H.Host self.old self.new) }
         ensures minds { OnOk result (MindsCache H.Host None self.old self.new (λ k. k ≡ name_at ((loom_told H.Host self.old).regs of))) }
@@ -177,10 +178,10 @@ impl<'h, H: Host> LoomMemory<'h, H> {
         ensures damage { IsDamaged self.old self.new (name_at ((loom_told H.Host self.old).regs of)) result }
         ensures core { OnOk result ((a : Access) → target_of a ≡ Some of → makes a ≡ 0 → IfBounds (loom_told H.Host self.old).bounds (HasCore (loom_told H.Host self.old) a)) }
         ensures err { IfErr result (λ f. (a : Access) → target_of a ≡ Some of → makes a ≡ 0 → IsSilent a → IsRefused (loom_told H.Host self.old) (loom_told H.Host self.new) a f) }
-        ensures brings { BringsOne self.old self.new ((is_resident self.old (name_at ((loom_told H.Host self.old).regs of)) ≡ false) ⊎ (HasRoom self.old.parts 0 SPARE → ⊥)) }
+        ensures brings { BringsOne self.old self.new ((is_resident self.old (name_at ((loom_told H.Host self.old).regs of)) ≡ false) ⊎ (HasRoom (loom_parts self.old) 0 SPARE → ⊥)) }
         ensures entries { OnOk result (IsFreed H.Host self.old self.new 0 SPARE) }
         ensures regs { OnOk result (self.new.regs ≡ self.old.regs) }
-        ensures lender { self.new.disk.host.ghost_name ≡ self.old.disk.host.ghost_name }
+        ensures lender { loom_lender self.new ≡ loom_lender self.old }
         ensures outside { loom_outside H.Host self.new ≡ loom_outside H.Host self.old }
     {
         match self.load_with_room(of) {
@@ -198,25 +199,26 @@ impl<'h, H: Host> LoomMemory<'h, H> {
     fn exchange_field(&mut self, of: Reg, s: Short, at: Addr, i: u32, from: Reg, old: u16)
         requires sound { IsSound H.Host self.old }
         requires word { s.0 ≡ word_in self.old.regs of }
-        requires there { (w : ℕ) × IsAt (core_of self.old.parts) s.0 at.place i w }
-        requires gone { ((core_of self.old.parts).entries s.0).flags.marked ≡ false }
-        requires used { is_short old ≡ true → is_used ((core_of self.old.parts).entries old).state ≡ true }
-        requires before { IsTrue (H.tells Role.Work) → brought (loom_told H.Host self.old).heap (loom_told H.Host self.old).regs (Field 0 of i) ≡ Some (meant (core_of self.old.parts).entries [] 0 old) }
+        requires there { (w : ℕ) × IsAt (loom_core self.old) s.0 at.place i w }
+        requires gone { ((loom_core self.old).entries s.0).flags.marked ≡ false }
+        requires used { is_short old ≡ true → is_used ((loom_core self.old).entries old).state ≡ true }
+        requires before { IsTrue (H.tells Role.Work) → brought (loom_told H.Host self.old).heap (loom_told H.Host self.old).regs (Field 0 of i) ≡ Some (meant (loom_core self.old).entries [] 0 old) }
         ensures stored { IsStored (loom_told H.Host self.old) (loom_told H.Host self.new) (SetField of i from) }
         ensures sound { IsSound H.Host self.new }
         ensures resting { IsResting self.old self.new }
-        ensures none { Remains (core_of self.new.parts) (core_of self.old.parts) }
+        ensures none { Remains (loom_core self.new) (loom_core self.old) }
         ensures cached { KeepsCache H.Host self.old self.new }
         ensures due { self.new.due ≡ self.old.due }
         ensures stays { StaysThinned self.old self.new old }
-        ensures lender { self.new.disk.host.ghost_name ≡ self.old.disk.host.ghost_name }
+        ensures lender { loom_lender self.new ≡ loom_lender self.old }
         ensures outside { loom_outside H.Host self.new ≡ loom_outside H.Host self.old }
     {
         let w = self.regs[from.index()];
-        raise_word(&mut self.parts, w);
-        put_field(&mut self.parts, s, at, i, w);
-        lower_word(&mut self.parts, old);
-        note_gone(&self.parts, &mut self.thinned, old);
+        let levels = &mut self.pager.levels;
+        raise_word(&mut levels.parts, w);
+        put_field(&mut levels.parts, s, at, i, w);
+        lower_word(&mut levels.parts, old);
+        note_gone(&levels.parts, &mut self.thinned, old);
     }
 
     // Stores the value of a register into field i of an object in the core, whatever was there. What a lambda meant is read from the record.
@@ -225,30 +227,30 @@ impl<'h, H: Host> LoomMemory<'h, H> {
         requires ready { IsReady (loom_told H.Host self.old) }
         requires may { IsTrue (H.tells Role.Work) → CanDo (loom_told H.Host self.old).heap (loom_told H.Host self.old).regs (SetField of i from) }
         requires word { s.0 ≡ word_in self.old.regs of }
-        requires there { (at : ℕ) × (place_of ((core_of self.old.parts).entries s.0).state ≡ Some at) }
-        requires gone { ((core_of self.old.parts).entries s.0).flags.marked ≡ false }
-        requires spare { SPARE_BEHIND_CLASS ≤ spare_of self.old.parts }
+        requires there { (at : ℕ) × (place_of ((loom_core self.old).entries s.0).state ≡ Some at) }
+        requires gone { ((loom_core self.old).entries s.0).flags.marked ≡ false }
+        requires spare { SPARE_BEHIND_CLASS ≤ spare_of (loom_parts self.old) }
         ensures stored { OnOk result (IsStored (loom_told H.Host self.old) (loom_told H.Host self.new) (SetField of i from)) }
         ensures sound { KeepsSound result (IsSound H.Host self.new) }
         ensures glance { OnOk result (IsGlance H.Host self.old self.new) }
-        ensures none { OnOk result (Remains (core_of self.new.parts) (core_of self.old.parts)) }
+        ensures none { OnOk result (Remains (loom_core self.new) (loom_core self.old)) }
         ensures cached { OnOk result (KeepsCache H.Host self.old self.new) }
-        ensures damage { IfErr result (IsDamageOf self.new.disk.rest ((core_of self.old.parts).entries s.0).name) }
+        ensures damage { IfErr result (IsDamageOf (loom_rest self.new) ((loom_core self.old).entries s.0).name) }
         ensures err { IfErr result (IsRefused (loom_told H.Host self.old) (loom_told H.Host self.new) (SetField of i from)) }
         ensures brings { fetched self.new ≡ fetched self.old }
         ensures due { OnOk result (self.new.due ≡ self.old.due) }
-        ensures lender { self.new.disk.host.ghost_name ≡ self.old.disk.host.ghost_name }
+        ensures lender { loom_lender self.new ≡ loom_lender self.old }
         ensures outside { loom_outside H.Host self.new ≡ loom_outside H.Host self.old }
     {
-        let at = place_of_body(&self.parts, s);
-        if i >= field_total(&self.parts, s, at) {
-            let name = self.parts.names.table.used_entry(s).name.get();
+        let at = place_of_body(&self.pager.levels.parts, s);
+        if i >= field_total(&self.pager.levels.parts, s, at) {
+            let name = self.pager.levels.parts.names.table.used_entry(s).name.get();
             return Err(self.refuse(MemFault::Damaged {
                 place: NOWHERE,
                 name,
             }));
         }
-        let w = field_word(&self.parts, s, at, i);
+        let w = field_word(&self.pager.levels.parts, s, at, i);
         if w == 0 {
             return match self.lambda_word(of, s, at, i) {
                 Ok(old) => {
@@ -267,22 +269,22 @@ impl<'h, H: Host> LoomMemory<'h, H> {
     fn replace_field(&mut self, of: Reg, s: Short, i: u32, from: Reg, w: u16)
         requires sound { IsSound H.Host self.old }
         requires word { s.0 ≡ word_in self.old.regs of }
-        requires there { (at : ℕ) × IsAt (core_of self.old.parts) s.0 at i w × (w ≢ 0) }
+        requires there { (at : ℕ) × IsAt (loom_core self.old) s.0 at i w × (w ≢ 0) }
         ensures stored { IsStored (loom_told H.Host self.old) (loom_told H.Host self.new) (SetField of i from) }
         ensures sound { IsSound H.Host self.new }
         ensures resting { IsResting self.old self.new }
-        ensures cached { ((core_of self.old.parts).entries s.0).flags.marked ≡ false → KeepsCache H.Host self.old self.new }
-        ensures minds { MindsCache H.Host None self.old self.new (λ k. k ≡ ((core_of self.old.parts).entries s.0).name) }
+        ensures cached { ((loom_core self.old).entries s.0).flags.marked ≡ false → KeepsCache H.Host self.old self.new }
+        ensures minds { MindsCache H.Host None self.old self.new (λ k. k ≡ ((loom_core self.old).entries s.0).name) }
         ensures due { self.new.due ≡ self.old.due }
         ensures stays { StaysThinned self.old self.new w }
-        ensures lender { self.new.disk.host.ghost_name ≡ self.old.disk.host.ghost_name }
+        ensures lender { loom_lender self.new ≡ loom_lender self.old }
         ensures outside { loom_outside H.Host self.new ≡ loom_outside H.Host self.old }
     {
         self.unmark(s);
         if self.word_of(from) == w {
             return;
         }
-        let at = place_of_body(&self.parts, s);
+        let at = place_of_body(&self.pager.levels.parts, s);
         self.exchange_field(of, s, at, i, from, w);
     }
 
@@ -298,7 +300,7 @@ impl<'h, H: Host> LoomMemory<'h, H> {
         ensures minds { OnOk result (MindsCache H.Host None self.old self.new (λ k. k ≡ name_at ((loom_told H.Host self.old).regs of))) }
         ensures gone { OnOk result (IsFreedBy H.Host self.old self.new (name_at ((loom_told H.Host self.old).regs of)) (SetField of i from)) }
         ensures damage { IsDamaged self.old self.new (name_at ((loom_told H.Host self.old).regs of)) result }
-        ensures brings { BringsOne self.old self.new ((is_resident self.old (name_at ((loom_told H.Host self.old).regs of)) ≡ false) ⊎ (HasRoom self.old.parts 0 SPARE → ⊥)) }
+        ensures brings { BringsOne self.old self.new ((is_resident self.old (name_at ((loom_told H.Host self.old).regs of)) ≡ false) ⊎ (HasRoom (loom_parts self.old) 0 SPARE → ⊥)) }
         ensures short { OnOk result (IsFreedShort H.Host self.old self.new (SetField of i from)) }
         ensures fit { StaysCallable (IsSound H.Host) (loom_told H.Host) loom_lender (loom_outside H.Host) self.old self.new result }
     {
@@ -320,13 +322,13 @@ impl<'h, H: Host> LoomMemory<'h, H> {
         ensures minds { OnOk result (MindsCache H.Host None self.old self.new (λ k. k ≡ name_at ((loom_told H.Host self.old).regs of))) }
         ensures gone { OnOk result (IsFreedBy H.Host self.old self.new (name_at ((loom_told H.Host self.old).regs of)) (SetField of i from)) }
         ensures damage { IsDamaged self.old self.new (name_at ((loom_told H.Host self.old).regs of)) result }
-        ensures brings { BringsOne self.old self.new ((is_resident self.old (name_at ((loom_told H.Host self.old).regs of)) ≡ false) ⊎ (HasRoom self.old.parts 0 SPARE → ⊥)) }
+        ensures brings { BringsOne self.old self.new ((is_resident self.old (name_at ((loom_told H.Host self.old).regs of)) ≡ false) ⊎ (HasRoom (loom_parts self.old) 0 SPARE → ⊥)) }
         ensures short { OnOk result ((IsAtHand self.old (name_at ((loom_told H.Host self.old).regs of)) i → ⊥) → IsFreedShort H.Host self.old self.new (SetField of i from)) }
-        ensures stays { OnOk result ((at w : ℕ) → IsAt (core_of self.old.parts) (word_in self.old.regs of) at i w → w ≢ 0 → StaysThinned self.old self.new w) }
+        ensures stays { OnOk result ((at w : ℕ) → IsAt (loom_core self.old) (word_in self.old.regs of) at i w → w ≢ 0 → StaysThinned self.old self.new w) }
         ensures fit { StaysCallable (IsSound H.Host) (loom_told H.Host) loom_lender (loom_outside H.Host) self.old self.new result }
     {
         match self.here(of) {
-            Some(s) => match word_in_body(&self.parts, s, i) {
+            Some(s) => match word_in_body(&self.pager.levels.parts, s, i) {
                 Some(w) => {
                     self.replace_field(of, s, i, from, w);
                     Ok(())
@@ -344,27 +346,28 @@ impl<'h, H: Host> LoomMemory<'h, H> {
         requires ready { IsReady (loom_told H.Host self.old) }
         requires may { IsTrue (H.tells Role.Work) → CanDo (loom_told H.Host self.old).heap (loom_told H.Host self.old).regs (WriteWords of at run.now) }
         requires word { s.0 ≡ word_in self.old.regs of }
-        requires there { (at : ℕ) × (place_of ((core_of self.old.parts).entries s.0).state ≡ Some at) }
-        requires gone { ((core_of self.old.parts).entries s.0).flags.marked ≡ false }
+        requires there { (at : ℕ) × (place_of ((loom_core self.old).entries s.0).state ≡ Some at) }
+        requires gone { ((loom_core self.old).entries s.0).flags.marked ≡ false }
         ensures stored { OnOk result (IsStored (loom_told H.Host self.old) (loom_told H.Host self.new) (WriteWords of at run.now)) }
         ensures sound { KeepsSound result (IsSound H.Host self.new) }
         ensures resting { OnOk result (IsResting self.old self.new) }
-        ensures none { OnOk result (Remains (core_of self.new.parts) (core_of self.old.parts)) }
+        ensures none { OnOk result (Remains (loom_core self.new) (loom_core self.old)) }
         ensures cached { OnOk result (KeepsCache H.Host self.old self.new) }
         ensures sure { IfErr result (λ f. IsTrue (H.tells Role.Work) → ⊥) }
-        ensures damage { IfErr result (IsDamageOf self.new.disk.rest ((core_of self.old.parts).entries s.0).name) }
+        ensures damage { IfErr result (IsDamageOf (loom_rest self.new) ((loom_core self.old).entries s.0).name) }
         ensures err { IfErr result (λ f. (a : Access) → IsSilent a → makes a ≡ 0 → IsRefused (loom_told H.Host self.old) (loom_told H.Host self.new) a f) }
         ensures brings { fetched self.new ≡ fetched self.old }
         ensures due { OnOk result (self.new.due ≡ self.old.due) }
         ensures flag { OnOk result (self.new.thinned ≡ self.old.thinned) }
-        ensures lender { self.new.disk.host.ghost_name ≡ self.old.disk.host.ghost_name }
+        ensures lender { loom_lender self.new ≡ loom_lender self.old }
         ensures outside { loom_outside H.Host self.new ≡ loom_outside H.Host self.old }
     {
-        let e = self.parts.names.table.used_entry(s);
+        let e = self.pager.levels.parts.names.table.used_entry(s);
         let fits = has_words(e.kind, e.len, at, run.len());
         if fits {
-            let place = place_of_body(&self.parts, s);
-            put_words(&mut self.parts, s, place, at, run);
+            let place = place_of_body(&self.pager.levels.parts, s);
+            let levels = &mut self.pager.levels;
+            put_words(&mut levels.parts, s, place, at, run);
             return Ok(());
         }
         Err(self.refuse(MemFault::Damaged {
@@ -418,27 +421,28 @@ impl<'h, H: Host> LoomMemory<'h, H> {
         requires ready { IsReady (loom_told H.Host self.old) }
         requires may { IsTrue (H.tells Role.Work) → CanDo (loom_told H.Host self.old).heap (loom_told H.Host self.old).regs (SetByte of i b) }
         requires word { s.0 ≡ word_in self.old.regs of }
-        requires there { (at : ℕ) × (place_of ((core_of self.old.parts).entries s.0).state ≡ Some at) }
-        requires gone { ((core_of self.old.parts).entries s.0).flags.marked ≡ false }
+        requires there { (at : ℕ) × (place_of ((loom_core self.old).entries s.0).state ≡ Some at) }
+        requires gone { ((loom_core self.old).entries s.0).flags.marked ≡ false }
         ensures stored { OnOk result (IsStored (loom_told H.Host self.old) (loom_told H.Host self.new) (SetByte of i b)) }
         ensures sound { KeepsSound result (IsSound H.Host self.new) }
         ensures resting { OnOk result (IsResting self.old self.new) }
-        ensures none { OnOk result (Remains (core_of self.new.parts) (core_of self.old.parts)) }
+        ensures none { OnOk result (Remains (loom_core self.new) (loom_core self.old)) }
         ensures cached { OnOk result (KeepsCache H.Host self.old self.new) }
         ensures sure { IfErr result (λ f. IsTrue (H.tells Role.Work) → ⊥) }
-        ensures damage { IfErr result (IsDamageOf self.new.disk.rest ((core_of self.old.parts).entries s.0).name) }
+        ensures damage { IfErr result (IsDamageOf (loom_rest self.new) ((loom_core self.old).entries s.0).name) }
         ensures err { IfErr result (IsRefused (loom_told H.Host self.old) (loom_told H.Host self.new) (SetByte of i b)) }
         ensures brings { fetched self.new ≡ fetched self.old }
         ensures due { OnOk result (self.new.due ≡ self.old.due) }
         ensures flag { OnOk result (self.new.thinned ≡ self.old.thinned) }
-        ensures lender { self.new.disk.host.ghost_name ≡ self.old.disk.host.ghost_name }
+        ensures lender { loom_lender self.new ≡ loom_lender self.old }
         ensures outside { loom_outside H.Host self.new ≡ loom_outside H.Host self.old }
     {
-        let e = self.parts.names.table.used_entry(s);
+        let e = self.pager.levels.parts.names.table.used_entry(s);
         let fits = has_byte(e.kind, e.len, i);
         if fits {
-            let place = place_of_body(&self.parts, s);
-            put_byte(&mut self.parts, s, place, i, b);
+            let place = place_of_body(&self.pager.levels.parts, s);
+            let levels = &mut self.pager.levels;
+            put_byte(&mut levels.parts, s, place, i, b);
             return Ok(());
         }
         Err(self.refuse(MemFault::Damaged {

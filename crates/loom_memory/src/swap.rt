@@ -7,7 +7,6 @@ use disk_objects::laws::a_disk_is_its_objects;
 use loom_host::Host;
 use object_memory::{MemFault, Reg};
 use object_table::Short;
-use purger::eviction::evict;
 
 impl<'h, H: Host> LoomMemory<'h, H> {
     ghost use Rattle.long_names.specs.Access.{Access, Swap, IsUnpinned, Nothing};
@@ -15,7 +14,7 @@ impl<'h, H: Host> LoomMemory<'h, H> {
     ghost use Rattle.object_memory.specs.Told.{IsReady};
     ghost use Rattle.object_memory.specs.Contract.{Accessed, KeepsSound, MayDo, makes};
     ghost use Rattle.object_memory.specs.Fit.{MayCall, StaysCallable};
-    ghost use Rattle.loom_memory.specs.Memory.{loom_told, loom_outside, loom_lender, IsSound, IsQuiet, IsSilent, IsRefused};
+    ghost use Rattle.loom_memory.specs.Memory.{loom_told, loom_outside, loom_lender, loom_parts, IsSound, IsQuiet, IsSilent, IsRefused};
     ghost use Rattle.loom_memory.specs.Stores.{IsAway, IsStored};
     ghost use Rattle.loom_memory.specs.Own.{IsPutAway, IsUnmarked, KeepsCache, MindsCache};
     ghost use Rattle.loom_memory.specs.Residents.{is_resident, fetched};
@@ -37,12 +36,21 @@ impl<'h, H: Host> LoomMemory<'h, H> {
         ensures err { IfErr result (λ f. (a : Access) → IsSilent a → makes a ≡ 0 → IsRefused (loom_told H.Host self.old) (loom_told H.Host self.new) a f) }
         ensures brings { fetched self.new ≡ fetched self.old }
         ensures due { OnOk result (self.new.due ≡ self.old.due) }
-        ensures lender { self.new.disk.host.ghost_name ≡ self.old.disk.host.ghost_name }
+        ensures lender { loom_lender self.new ≡ loom_lender self.old }
         ensures outside { loom_outside H.Host self.new ≡ loom_outside H.Host self.old }
     {
         let s = Short(self.regs[of.index()]);
-        if self.parts.names.table.used_entry(s).place().is_some() {
-            return match evict(&mut self.parts, &mut self.disk, &mut self.out, s) {
+        if self
+            .pager
+            .levels
+            .parts
+            .names
+            .table
+            .used_entry(s)
+            .place()
+            .is_some()
+        {
+            return match self.pager.evict(s) {
                 Ok(()) => Ok(()),
                 Err(f) => {
                     let f = refusal_of(f);
@@ -60,23 +68,24 @@ impl<'h, H: Host> LoomMemory<'h, H> {
         requires names { IsRef ((loom_told H.Host self.old).regs a) × IsRef ((loom_told H.Host self.old).regs b) }
         requires away { IsAway self.old a × IsAway self.old b }
         ensures swapped { OnOk result (IsStored (loom_told H.Host self.old) (loom_told H.Host self.new) (Swap a b)) }
-        ensures parts { OnOk result (self.new.parts ≡ self.old.parts) }
+        ensures parts { OnOk result (loom_parts self.new ≡ loom_parts self.old) }
         ensures fetches { OnOk result (fetched self.new ≡ fetched self.old) }
         ensures cached { OnOk result (KeepsCache H.Host self.old self.new) }
         ensures sound { KeepsSound result (IsSound H.Host self.new) }
         ensures err { IfErr result (IsRefused (loom_told H.Host self.old) (loom_told H.Host self.new) (Swap a b)) }
         ensures brings { fetched self.new ≡ fetched self.old }
         ensures due { OnOk result (self.new.due ≡ self.old.due) }
-        ensures lender { self.new.disk.host.ghost_name ≡ self.old.disk.host.ghost_name }
+        ensures lender { loom_lender self.new ≡ loom_lender self.old }
         ensures outside { loom_outside H.Host self.new ≡ loom_outside H.Host self.old }
     {
         // What has an object on the disk is held there.
         a_disk_is_its_objects();
         let s = Short(self.regs[a.index()]);
         let t = Short(self.regs[b.index()]);
-        let first = self.parts.names.table.used_entry(s).name;
-        let second = self.parts.names.table.used_entry(t).name;
-        match self.disk.swap(first, second, &mut self.out) {
+        let first = self.pager.levels.parts.names.table.used_entry(s).name;
+        let second = self.pager.levels.parts.names.table.used_entry(t).name;
+        let levels = &mut self.pager.levels;
+        match levels.disk.swap(first, second, &mut self.buf) {
             Ok(()) => {
                 self.thinned = false;
                 Ok(())

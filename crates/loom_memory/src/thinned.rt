@@ -53,7 +53,7 @@ impl<'h, H: Host> LoomMemory<'h, H> {
     ghost use Rattle.object_memory.specs.Contract.{KeepsSound, Settles};
     ghost use Rattle.purger.specs.Draining.{KeepsHeld};
     ghost use Rattle.std.specs.Prelude.{Ok};
-    ghost use Rattle.loom_memory.specs.Memory.{loom_told, loom_outside, IsSound};
+    ghost use Rattle.loom_memory.specs.Memory.{loom_told, loom_outside, loom_core, loom_lender, loom_parts, loom_rest, IsSound};
     ghost use Rattle.loom_memory.specs.Own.{MindsCache};
     ghost use Rattle.loom_memory.specs.Makings.{HasThinned, IsRefusedCall};
     ghost use Rattle.loom_memory.specs.Residents.{fetched};
@@ -79,15 +79,15 @@ impl<'h, H: Host> LoomMemory<'h, H> {
         ensures lasts { is_thinned self.old ≡ true → (result ≡ Ok tt) × (self.new ≡ self.old) }
         ensures ledger { OnOk result (self.new.ledger ≡ record self.old.ledger { held = self.new.ledger.held }) }
         ensures less { OnOk result (self.new.ledger.held ≤ self.old.ledger.held) }
-        ensures limit { OnOk result (disk_room self.new.disk.rest ≡ disk_room self.old.disk.rest) }
+        ensures limit { OnOk result (disk_room (loom_rest self.new) ≡ disk_room (loom_rest self.old)) }
         ensures fetches { fetched self.new ≡ fetched self.old }
-        ensures bodies { OnOk result (IsTrue (H.tells Role.Work) → KeepsHeld (core_of self.old.parts) (core_of self.new.parts) (loom_told H.Host self.new).heap) }
-        ensures entries { OnOk result (spare_of self.old.parts ≤ spare_of self.new.parts) }
-        ensures words { OnOk result (free_of self.old.parts.segment ≤ free_of self.new.parts.segment) }
+        ensures bodies { OnOk result (IsTrue (H.tells Role.Work) → KeepsHeld (loom_core self.old) (loom_core self.new) (loom_told H.Host self.new).heap) }
+        ensures entries { OnOk result (spare_of (loom_parts self.old) ≤ spare_of (loom_parts self.new)) }
+        ensures words { OnOk result (free_of (loom_parts self.old).segment ≤ free_of (loom_parts self.new).segment) }
         ensures minds { OnOk result (MindsCache H.Host None self.old self.new (λ k. ⊥)) }
         ensures sound { KeepsSound result (IsSound H.Host self.new) }
         ensures settling { IfErr result (IsRefusedCall (loom_told H.Host self.old) (loom_told H.Host self.new) Settles) }
-        ensures lender { self.new.disk.host.ghost_name ≡ self.old.disk.host.ghost_name }
+        ensures lender { loom_lender self.new ≡ loom_lender self.old }
         ensures outside { loom_outside H.Host self.new ≡ loom_outside H.Host self.old }
     {
         if self.thinned {

@@ -1,7 +1,7 @@
 use Rattle.std.proofs.Common.{◌∙◌, ap, arith}
 use Rattle.core_segment.specs.Segment.{largest_of, size_of}
 use Rattle.leaf_lambda.specs.Parts.{core_of}
-use Rattle.loom_memory.proofs.NewLaws.{new-if, none-if, sound-if}
+use Rattle.loom_memory.proofs.NewLaws.{new-if, none-if, readied-if, sound-if}
 use Rattle.loom_memory.proofs.making.make_object.Goals as goal
 
 pub count_ahead-nil-requires-clause-spare : goal.count_ahead-nil-requires-clause-spare
@@ -30,3 +30,6 @@ returns-clause-none c = none-if c.put_new.result (core_of c.args.p.now) (core_of
 
 pub returns-clause-size : goal.returns-clause-size
 returns-clause-size c = c.put_new.ensures.size ∙ ap size_of c.count_ahead-nil.ensures.segment
+
+pub returns-clause-readied : goal.returns-clause-readied
+returns-clause-readied c = readied-if c.put_new.result (core_of c.args.p.now) c.count_ahead-nil.new.p c.put_new.new.p c.count_ahead-nil.ensures.readied c.put_new.ensures.still

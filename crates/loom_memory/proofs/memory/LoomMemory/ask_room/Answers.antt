@@ -10,7 +10,7 @@ use Rattle.loom_memory.proofs.MindLaws.{minds-refl}
 use Rattle.loom_memory.proofs.memory.LoomMemory.ask_room.Goals as goal
 
 pub returns-then-self-room-clause-bodies : goal.returns-then-self-room-clause-bodies
-returns-then-self-room-clause-bodies g c = λ told. bodies-same c.args.self.now.parts c.args.self.now.parts (loom_told g.H.Host c.args.self.now).heap refl
+returns-then-self-room-clause-bodies g c = λ told. bodies-same c.args.self.now.pager.levels.parts c.args.self.now.pager.levels.parts (loom_told g.H.Host c.args.self.now).heap refl
 
 pub returns-then-self-room-clause-room : goal.returns-then-self-room-clause-room
 returns-then-self-room-clause-room g c = λ words has. has
@@ -19,7 +19,7 @@ pub returns-then-self-lt-MAKINGS_BEFORE_FREEING-clause-spared : goal.returns-the
 returns-then-self-lt-MAKINGS_BEFORE_FREEING-clause-spared g c = λ undrained. c.crowded.ensures.spared
 
 pub returns-clause-spared : goal.returns-clause-spared
-returns-clause-spared g c = spared-never _ c.free_one.result (λ undrained. ⊎_elim (λ (h : c.args.self.now.ledger.held < disk_room c.args.self.now.disk.rest). let no = c.if-self-room.false in omega (arith, h, no)) (λ (h : c.args.self.now.ledger.made < 8). let no = c.if-self-lt-MAKINGS_BEFORE_FREEING.false in omega (arith, h, no)) undrained)
+returns-clause-spared g c = spared-never _ c.free_one.result (λ undrained. ⊎_elim (λ (h : c.args.self.now.ledger.held < disk_room c.args.self.now.pager.levels.disk.rest). let no = c.if-self-room.false in omega (arith, h, no)) (λ (h : c.args.self.now.ledger.made < 8). let no = c.if-self-lt-MAKINGS_BEFORE_FREEING.false in omega (arith, h, no)) undrained)
 
 pub returns-then-self-lt-MAKINGS_BEFORE_FREEING-clause-sure : goal.returns-then-self-lt-MAKINGS_BEFORE_FREEING-clause-sure
 returns-then-self-lt-MAKINGS_BEFORE_FREEING-clause-sure g c = λ low. let no = c.if-self-room.false in omega (arith, low, no)
@@ -34,4 +34,4 @@ pub returns-then-self-room-clause-alive : goal.returns-then-self-room-clause-ali
 returns-then-self-room-clause-alive g c = λ full. let low = c.if-self-room.true in absurd (omega (arith, low, full))
 
 pub returns-clause-alive : goal.returns-clause-alive
-returns-clause-alive g c = each-ok (disk_room c.args.self.now.disk.rest ≤ c.args.self.now.ledger.held) (IsAlive (loom_told g.H.Host c.free_one.new.self)) c.free_one.result c.free_one.ensures.alive
+returns-clause-alive g c = each-ok (disk_room c.args.self.now.pager.levels.disk.rest ≤ c.args.self.now.ledger.held) (IsAlive (loom_told g.H.Host c.free_one.new.self)) c.free_one.result c.free_one.ensures.alive

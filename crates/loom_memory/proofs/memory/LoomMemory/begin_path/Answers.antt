@@ -28,17 +28,17 @@ unfolding loom_told
 returns-clause-told g c =
     let m = c.args.self.now in
     let k = c.refresh.new.k in
-    ledger-told g.H.Host m.disk.host.now m.disk.rest (core_of m.parts) m.regs m.pinned m.ledger (record k { begun = true }) (record (cache_of (core_of m.parts) (found m.ledger.rows) m.ledger.mark m.ledger.begun) { path = true }) (caching g c)
-    (path-begun (core_of m.parts) (found k.rows) k.mark k.begun (cache_of (core_of m.parts) (found m.ledger.rows) m.ledger.mark m.ledger.begun) c.refresh.ensures.fresh c.refresh.ensures.cache)
+    ledger-told g.H.Host m.pager.levels.disk.host.now m.pager.levels.disk.rest (core_of m.pager.levels.parts) m.regs m.pager.pinned m.ledger (record k { begun = true }) (record (cache_of (core_of m.pager.levels.parts) (found m.ledger.rows) m.ledger.mark m.ledger.begun) { path = true }) (caching g c)
+    (path-begun (core_of m.pager.levels.parts) (found k.rows) k.mark k.begun (cache_of (core_of m.pager.levels.parts) (found m.ledger.rows) m.ledger.mark m.ledger.begun) c.refresh.ensures.fresh c.refresh.ensures.cache)
 
 sound-of : (g : given.Over) (c : goal.After-self-1 g) → IsSound g.H.Host (record c.args.self.now { ledger = record c.refresh.new.k { begun = true } })
 sound-of g c =
     let m = c.args.self.now in
     record {
-      kept = ledger-kept m.parts m.regs m.pinned m.ledger (record c.refresh.new.k { begun = true }) c.requires.kept (caching g c) c.refresh.ensures.cached;
-      over = ledger-over g.H.Host m.disk.host.now m.disk.rest (core_of m.parts) m.ledger (record c.refresh.new.k { begun = true }) c.requires.over (caching g c);
+      kept = ledger-kept m.pager.levels.parts m.regs m.pager.pinned m.ledger (record c.refresh.new.k { begun = true }) c.requires.kept (caching g c) c.refresh.ensures.cached;
+      over = ledger-over g.H.Host m.pager.levels.disk.host.now m.pager.levels.disk.rest (core_of m.pager.levels.parts) m.ledger (record c.refresh.new.k { begun = true }) c.requires.over (caching g c);
       soon = subst (λ (k : Ledger). m.due ≤ k.next + k.entries / 8) (sym c.refresh.ensures.ledger) c.requires.soon;
-      exact = exact-caching g.H.Host m.parts m.disk.host.now m.disk.rest m.ledger (record c.refresh.new.k { begun = true }) c.requires.exact (caching g c);
+      exact = exact-caching g.H.Host m.pager.levels.parts m.pager.levels.disk.host.now m.pager.levels.disk.rest m.ledger (record c.refresh.new.k { begun = true }) c.requires.exact (caching g c);
       thin = thin-of g.H.Host c.args.self.now _ c.requires.thin (λ on. on) (ap (λ (t : Told). t.heap) (returns-clause-told g c)) (ap (λ (t : Told). t.regs) (returns-clause-told g c)) (ap (λ (t : Told). t.slots) (returns-clause-told g c));
     }
 
@@ -53,4 +53,4 @@ returns-clause-fit g c = record {
 
 pub returns-clause-resting : goal.returns-clause-resting
 unfolding fetched
-returns-clause-resting g c = record { remains = remains-refl (core_of c.args.self.now.parts); idle = record { host = refl; rest = refl; fetches = ap (λ (z : Ledger). z.fetches) c.refresh.ensures.ledger } }
+returns-clause-resting g c = record { remains = remains-refl (core_of c.args.self.now.pager.levels.parts); idle = record { host = refl; rest = refl; fetches = ap (λ (z : Ledger). z.fetches) c.refresh.ensures.ledger } }

@@ -28,43 +28,43 @@ pub returns-then-not-names_marked-clause-whole : goal.returns-then-not-names_mar
 unfolding loom_told
 returns-then-not-names_marked-clause-whole g c = λ whole.
     let m = c.args.self.now in
-    absurd (unmarked-whole (core_of m.parts) (found m.ledger.rows) m.ledger.mark m.ledger.begun (meant (core_of m.parts).entries [] 0 (word_in m.regs c.args.class)) c.requires.sound.kept.parts.core c.requires.sound.kept.cached (sym c.names_marked.ensures ∙ c.if-not-names_marked.true) (c.requires.class whole))
+    absurd (unmarked-whole (core_of m.pager.levels.parts) (found m.ledger.rows) m.ledger.mark m.ledger.begun (meant (core_of m.pager.levels.parts).entries [] 0 (word_in m.regs c.args.class)) c.requires.sound.kept.parts.core c.requires.sound.kept.cached (sym c.names_marked.ensures ∙ c.if-not-names_marked.true) (c.requires.class whole))
 
 whole-of : (g : given.Over) (c : goal.After-put g) → (loom_told g.H.Host c.args.self.now).cache.path ≡ true
 unfolding loom_told
-whole-of g c = path-marked c.args.self.now.ledger.mark c.args.self.now.ledger.begun (has_mark (core_of c.args.self.now.parts) c.args.self.now.ledger.mark) c.if-not-self.false (sym c.names_marked.ensures ∙ c.if-not-names_marked.false)
+whole-of g c = path-marked c.args.self.now.ledger.mark c.args.self.now.ledger.begun (has_mark (core_of c.args.self.now.pager.levels.parts) c.args.self.now.ledger.mark) c.if-not-self.false (sym c.names_marked.ensures ∙ c.if-not-names_marked.false)
 
-class-of : (g : given.Over) (c : goal.After-put g) → (has_mark (core_of c.args.self.now.parts) c.word_of-c.result ≡ true) × (is_short c.word_of-c.result ≡ true)
+class-of : (g : given.Over) (c : goal.After-put g) → (has_mark (core_of c.args.self.now.pager.levels.parts) c.word_of-c.result ≡ true) × (is_short c.word_of-c.result ≡ true)
 unfolding loom_told
 class-of g c =
     let m = c.args.self.now in
-    marked-word (core_of m.parts) (found m.ledger.rows) m.ledger.mark m.ledger.begun c.word_of-c.result c.requires.sound.kept.parts.core c.word_of-c.ensures.some c.word_of-c.ensures.used
-    (subst (λ (w : ℕ). is_marked (cache_of (core_of m.parts) (found m.ledger.rows) m.ledger.mark m.ledger.begun) (meant (core_of m.parts).entries [] 0 w) ≡ true) (sym c.word_of-c.ensures.word) (c.requires.class (whole-of g c)))
+    marked-word (core_of m.pager.levels.parts) (found m.ledger.rows) m.ledger.mark m.ledger.begun c.word_of-c.result c.requires.sound.kept.parts.core c.word_of-c.ensures.some c.word_of-c.ensures.used
+    (subst (λ (w : ℕ). is_marked (cache_of (core_of m.pager.levels.parts) (found m.ledger.rows) m.ledger.mark m.ledger.begun) (meant (core_of m.pager.levels.parts).entries [] 0 w) ≡ true) (sym c.word_of-c.ensures.word) (c.requires.class (whole-of g c)))
 
-selector-of : (g : given.Over) (c : goal.After-put g) → (has_mark (core_of c.args.self.now.parts) c.word_of-s.result ≡ true) × (is_short c.word_of-s.result ≡ true)
+selector-of : (g : given.Over) (c : goal.After-put g) → (has_mark (core_of c.args.self.now.pager.levels.parts) c.word_of-s.result ≡ true) × (is_short c.word_of-s.result ≡ true)
 unfolding loom_told
 selector-of g c =
     let m = c.args.self.now in
-    marked-word (core_of m.parts) (found m.ledger.rows) m.ledger.mark m.ledger.begun c.word_of-s.result c.requires.sound.kept.parts.core c.word_of-s.ensures.some c.word_of-s.ensures.used
-    (subst (λ (w : ℕ). is_marked (cache_of (core_of m.parts) (found m.ledger.rows) m.ledger.mark m.ledger.begun) (meant (core_of m.parts).entries [] 0 w) ≡ true) (sym c.word_of-s.ensures.word) (c.requires.selector (whole-of g c)))
+    marked-word (core_of m.pager.levels.parts) (found m.ledger.rows) m.ledger.mark m.ledger.begun c.word_of-s.result c.requires.sound.kept.parts.core c.word_of-s.ensures.some c.word_of-s.ensures.used
+    (subst (λ (w : ℕ). is_marked (cache_of (core_of m.pager.levels.parts) (found m.ledger.rows) m.ledger.mark m.ledger.begun) (meant (core_of m.pager.levels.parts).entries [] 0 w) ≡ true) (sym c.word_of-s.ensures.word) (c.requires.selector (whole-of g c)))
 
-method-of : (g : given.Over) (c : goal.After-put g) → (has_mark (core_of c.args.self.now.parts) c.word_of-m.result ≡ true) × (is_short c.word_of-m.result ≡ true)
+method-of : (g : given.Over) (c : goal.After-put g) → (has_mark (core_of c.args.self.now.pager.levels.parts) c.word_of-m.result ≡ true) × (is_short c.word_of-m.result ≡ true)
 unfolding loom_told
 method-of g c =
     let m = c.args.self.now in
-    marked-word (core_of m.parts) (found m.ledger.rows) m.ledger.mark m.ledger.begun c.word_of-m.result c.requires.sound.kept.parts.core c.word_of-m.ensures.some c.word_of-m.ensures.used
-    (subst (λ (w : ℕ). is_marked (cache_of (core_of m.parts) (found m.ledger.rows) m.ledger.mark m.ledger.begun) (meant (core_of m.parts).entries [] 0 w) ≡ true) (sym c.word_of-m.ensures.word) (c.requires.method (whole-of g c)))
+    marked-word (core_of m.pager.levels.parts) (found m.ledger.rows) m.ledger.mark m.ledger.begun c.word_of-m.result c.requires.sound.kept.parts.core c.word_of-m.ensures.some c.word_of-m.ensures.used
+    (subst (λ (w : ℕ). is_marked (cache_of (core_of m.pager.levels.parts) (found m.ledger.rows) m.ledger.mark m.ledger.begun) (meant (core_of m.pager.levels.parts).entries [] 0 w) ≡ true) (sym c.word_of-m.ensures.word) (c.requires.method (whole-of g c)))
 
 -- what a register's marked word means
-means-of : (g : given.Over) (c : goal.After-put g) (r w : ℕ) → w ≡ word_in c.args.self.now.regs r → has_mark (core_of c.args.self.now.parts) w ≡ true → (loom_told g.H.Host c.args.self.now).regs r ≡ Ref ((core_of c.args.self.now.parts).entries w).name
+means-of : (g : given.Over) (c : goal.After-put g) (r w : ℕ) → w ≡ word_in c.args.self.now.regs r → has_mark (core_of c.args.self.now.pager.levels.parts) w ≡ true → (loom_told g.H.Host c.args.self.now).regs r ≡ Ref ((core_of c.args.self.now.pager.levels.parts).entries w).name
 unfolding loom_told
-means-of g c r w is on = ap (meant (core_of c.args.self.now.parts).entries [] 0) (sym is) ∙ marked-means (core_of c.args.self.now.parts) w c.requires.sound.kept.parts.core on
+means-of g c r w is on = ap (meant (core_of c.args.self.now.pager.levels.parts).entries [] 0) (sym is) ∙ marked-means (core_of c.args.self.now.pager.levels.parts) w c.requires.sound.kept.parts.core on
 
 pub returns-clause-put : goal.returns-clause-put
 unfolding loom_told
 returns-clause-put g c =
     let m = c.args.self.now in
-    let x = core_of m.parts in
+    let x = core_of m.pager.levels.parts in
     record {
       path = whole-of g c;
       row = λ n name. subst (λ (w : ℕ). row_of_values (cache_of x (found c.put.new.self) m.ledger.mark m.ledger.begun) (meant x.entries [] 0 w) (meant x.entries [] 0 (word_in m.regs c.args.selector)) n ≡ true) c.word_of-c.ensures.word
@@ -88,9 +88,9 @@ unfolding loom_told IsThin
 sound-of g c =
     let m = c.args.self.now in
     record {
-      kept = ledger-kept m.parts m.regs m.pinned m.ledger (record m.ledger { rows = c.put.new.self }) c.requires.sound.kept refl
-          (put-cached (core_of m.parts) (found m.ledger.rows) (found c.put.new.self) m.ledger.mark c.word_of-c.result c.word_of-s.result c.word_of-m.result c.requires.sound.kept.cached c.put.ensures (class-of g c).0 (selector-of g c).0 (method-of g c).0);
-      over = ledger-over g.H.Host m.disk.host.now m.disk.rest (core_of m.parts) m.ledger (record m.ledger { rows = c.put.new.self }) c.requires.sound.over refl;
+      kept = ledger-kept m.pager.levels.parts m.regs m.pager.pinned m.ledger (record m.ledger { rows = c.put.new.self }) c.requires.sound.kept refl
+          (put-cached (core_of m.pager.levels.parts) (found m.ledger.rows) (found c.put.new.self) m.ledger.mark c.word_of-c.result c.word_of-s.result c.word_of-m.result c.requires.sound.kept.cached c.put.ensures (class-of g c).0 (selector-of g c).0 (method-of g c).0);
+      over = ledger-over g.H.Host m.pager.levels.disk.host.now m.pager.levels.disk.rest (core_of m.pager.levels.parts) m.ledger (record m.ledger { rows = c.put.new.self }) c.requires.sound.over refl;
       soon = c.requires.sound.soon;
       exact = c.requires.sound.exact;
       thin = c.requires.sound.thin;
@@ -100,7 +100,7 @@ ready-of : (g : given.Over) (c : goal.After-put g) → IsReady (loom_told g.H.Ho
 unfolding loom_told
 ready-of g c = λ ready.
     let m = c.args.self.now in
-    let x = core_of m.parts in
+    let x = core_of m.pager.levels.parts in
     record {
       whole = ready.whole;
       marked = ready.marked;
@@ -119,20 +119,20 @@ returns-clause-fit g c = record {
 }
 
 pub returns-then-not-self-clause-resting : goal.returns-then-not-self-clause-resting
-returns-then-not-self-clause-resting g c = rest-refl c.args.self.now c.args.self.now (remains-refl (core_of c.args.self.now.parts)) refl refl refl
+returns-then-not-self-clause-resting g c = rest-refl c.args.self.now c.args.self.now (remains-refl (core_of c.args.self.now.pager.levels.parts)) refl refl refl
 
 pub returns-then-not-names_marked-clause-resting : goal.returns-then-not-names_marked-clause-resting
-returns-then-not-names_marked-clause-resting g c = rest-refl c.args.self.now c.args.self.now (remains-refl (core_of c.args.self.now.parts)) refl refl refl
+returns-then-not-names_marked-clause-resting g c = rest-refl c.args.self.now c.args.self.now (remains-refl (core_of c.args.self.now.pager.levels.parts)) refl refl refl
 
 pub returns-clause-resting : goal.returns-clause-resting
 unfolding fetched
-returns-clause-resting g c = record { remains = remains-refl (core_of c.args.self.now.parts); idle = record { host = refl; rest = refl; fetches = refl } }
+returns-clause-resting g c = record { remains = remains-refl (core_of c.args.self.now.pager.levels.parts); idle = record { host = refl; rest = refl; fetches = refl } }
 
 pub returns-clause-others : goal.returns-clause-others
 unfolding loom_told
 returns-clause-others g c = λ yes_.
     let m = c.args.self.now in
-    let x = core_of m.parts in
+    let x = core_of m.pager.levels.parts in
     record {
       lost_class = (x.entries c.put.ensures.lost_class).name;
       lost_selector = (x.entries c.put.ensures.lost_selector).name;

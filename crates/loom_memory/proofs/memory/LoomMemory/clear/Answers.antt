@@ -9,7 +9,7 @@ pub returns-in-Disk-clause-err : goal.returns-in-Disk-clause-err
 returns-in-Disk-clause-err g c = λ a silent none.
     let m = c.args.self.now in
     purge-refused g.H.Host m c.room.new.self (loom_told g.H.Host c.refuse.new.self) a c.in-Disk.f c.refusal_of-f.result c.refuse.result c.in-Err.ensures.ledger c.in-Err.ensures.work c.in-Err.ensures.limit
-    (subst (λ (z : RoomFault). OnDisk z (IsPurgeFault g.H.Host m.disk.host.now c.room.new.self.disk.host.now)) c.in-Disk.is c.in-Err.ensures.fault)
+    (subst (λ (z : RoomFault). OnDisk z (IsPurgeFault g.H.Host m.pager.levels.disk.host.now c.room.new.self.pager.levels.disk.host.now)) c.in-Disk.is c.in-Err.ensures.fault)
     c.refusal_of-f.ensures c.refuse.ensures.told c.refuse.ensures.result c.refuse.ensures.later silent none
 
 pub returns-in-Ok-clause-gentle : goal.returns-in-Ok-clause-gentle

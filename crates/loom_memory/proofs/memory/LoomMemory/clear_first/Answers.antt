@@ -28,7 +28,7 @@ pub returns-in-Ok-clause-regs : goal.returns-in-Ok-clause-regs
 returns-in-Ok-clause-regs g c = same-first c.clear.result c.args.self.now.regs c.free_first.new.self.regs c.clear.new.self.regs c.in-Ok.ensures.regs c.clear.ensures.regs
 
 pub returns-in-Ok-clause-pins : goal.returns-in-Ok-clause-pins
-returns-in-Ok-clause-pins g c = same-first c.clear.result c.args.self.now.pinned c.free_first.new.self.pinned c.clear.new.self.pinned c.in-Ok.ensures.pins c.clear.ensures.pins
+returns-in-Ok-clause-pins g c = same-first c.clear.result c.args.self.now.pager.pinned c.free_first.new.self.pager.pinned c.clear.new.self.pager.pinned c.in-Ok.ensures.pins c.clear.ensures.pins
 
 pub returns-in-Ok-clause-ledger : goal.returns-in-Ok-clause-ledger
 returns-in-Ok-clause-ledger g c = ledger-first c.clear.result c.args.self.now.ledger c.free_first.new.self.ledger c.clear.new.self.ledger c.in-Ok.ensures.ledger c.clear.ensures.ledger

@@ -8,6 +8,6 @@ invariant-loop-i g l = record {
   told : loom_told g.H.Host l.self ≡ (record (loom_told g.H.Host l.fn.self) { regs = (loom_told g.H.Host l.self).regs });
   none : AreNumbersBelow l.i (loom_told g.H.Host l.self).regs;
   sound : IsSound g.H.Host l.self;
-  lender : l.self.disk.host.ghost_name ≡ l.fn.self.disk.host.ghost_name;
+  lender : l.self.pager.levels.disk.host.ghost_name ≡ l.fn.self.pager.levels.disk.host.ghost_name;
   outside : loom_outside g.H.Host l.self ≡ loom_outside g.H.Host l.fn.self;
 }

@@ -11,7 +11,7 @@ use Rattle.loom_memory.specs.Memory.{loom_told, word_in, IsSound}
 use Rattle.loom_memory.proofs.GlanceLaws.{found-told, name-told, none-told, number-told}
 use Rattle.loom_memory.proofs.memory.LoomMemory.code_byte.Goals as goal
 
-byte-told : {H : Type 0} (host : Ghosts H) (m : LoomMemory H) (of w place : ℕ) (found : Option ℕ) → IsSound host m → w ≡ word_in m.regs of → OfBody (core_of m.parts) w (λ b. found ≡ code_at place b) → OnSome found (IsSome (place_of ((core_of m.parts).entries w).state))
+byte-told : {H : Type 0} (host : Ghosts H) (m : LoomMemory H host) (of w place : ℕ) (found : Option ℕ) → IsSound host m → w ≡ word_in m.regs of → OfBody (core_of m.pager.levels.parts) w (λ b. found ≡ code_at place b) → OnSome found (IsSome (place_of ((core_of m.pager.levels.parts).entries w).state))
     → IfSome found (λ byte. IsTrue (loom_told host m).tells → part_at (loom_told host m).heap ((loom_told host m).regs of) (code_at place) ≡ Some byte)
 byte-told {H} host m of w place None sound same body there = tt
 byte-told {H} host m of w place (Some byte) sound same body there = found-told host m of w (code_at place) (Some byte) sound same there body

@@ -24,36 +24,37 @@ use Rattle.loom_memory.proofs.CacheLaws.{cache-same}
 use Rattle.loom_memory.proofs.GentleLaws.{within-remains}
 use Rattle.loom_memory.proofs.MindLaws.{minds-come}
 use Rattle.loom_memory.proofs.DeadLaws.{thin-quiet}
+use Rattle.loom_memory.proofs.WholeLaws.{come-whole}
 use Rattle.loom_memory.proofs.memory.LoomMemory.come.Goals as goal
 use Rattle.loom_memory.proofs.memory.LoomMemory.come.Given as given
 
 pub translate_in-requires-clause-light : goal.translate_in-requires-clause-light
-translate_in-requires-clause-light g c = λ t. let m = c.args.self.now in few-held (core_of m.parts) m.regs m.pinned t (kept-rooted m.parts m.regs m.pinned m.ledger c.requires.sound.kept) c.requires.sound.kept.many
+translate_in-requires-clause-light g c = λ t. let m = c.args.self.now in few-held (core_of m.pager.levels.parts) m.regs m.pager.pinned t (kept-rooted m.pager.levels.parts m.regs m.pager.pinned m.ledger c.requires.sound.kept) c.requires.sound.kept.many
 
 -- the disk has to have the same, and the held heap stays
-keeps-of : (g : given.Over) (c : goal.After-count_fetch g) → IsTrue (g.H.Host.tells Work) → Keeps (disk_of g.H.Host c.args.self.now.disk.host.now c.args.self.now.disk.rest) (core_of c.args.self.now.parts) (core_of c.translate_in.new.p)
-keeps-of g c = λ told. c.translate_in.ensures.keeps (disk_of g.H.Host c.args.self.now.disk.host.now c.args.self.now.disk.rest) (c.requires.sound.over.backed told) (c.requires.there told)
+keeps-of : (g : given.Over) (c : goal.After-count_fetch g) → IsTrue (g.H.Host.tells Work) → Keeps (disk_of g.H.Host c.args.self.now.pager.levels.disk.host.now c.args.self.now.pager.levels.disk.rest) (core_of c.args.self.now.pager.levels.parts) (core_of c.translate_in.new.p)
+keeps-of g c = λ told. c.translate_in.ensures.keeps (disk_of g.H.Host c.args.self.now.pager.levels.disk.host.now c.args.self.now.pager.levels.disk.rest) (c.requires.sound.over.backed told) (c.requires.there told)
 
-calm-of : (g : given.Over) (c : goal.After-count_fetch g) → IsCalm c.args.self.now.pinned (core_of c.args.self.now.parts) (core_of c.translate_in.new.p)
-calm-of g c = within-calm c.args.self.now.pinned c.args.s.0 (core_of c.args.self.now.parts) (core_of c.translate_in.new.p) c.requires.sound.kept.parts.core c.translate_in.ensures.parts.core c.translate_in.ensures.within c.requires.leaf.0 c.requires.leaf.1
+calm-of : (g : given.Over) (c : goal.After-count_fetch g) → IsCalm c.args.self.now.pager.pinned (core_of c.args.self.now.pager.levels.parts) (core_of c.translate_in.new.p)
+calm-of g c = within-calm c.args.self.now.pager.pinned c.args.s.0 (core_of c.args.self.now.pager.levels.parts) (core_of c.translate_in.new.p) c.requires.sound.kept.parts.core c.translate_in.ensures.parts.core c.translate_in.ensures.within c.requires.leaf.0 c.requires.leaf.1
 
 -- it isn't fresh
-fresh-of : (g : given.Over) (c : goal.After-count_fetch g) → IsTrue (g.H.Host.tells Work) → fresh_of (core_of c.translate_in.new.p) ≡ fresh_of (core_of c.args.self.now.parts)
+fresh-of : (g : given.Over) (c : goal.After-count_fetch g) → IsTrue (g.H.Host.tells Work) → fresh_of (core_of c.translate_in.new.p) ≡ fresh_of (core_of c.args.self.now.pager.levels.parts)
 fresh-of g c = λ told.
     let m = c.args.self.now in
-    let disk : Disk = disk_of g.H.Host m.disk.host.now m.disk.rest in
+    let disk : Disk = disk_of g.H.Host m.pager.levels.disk.host.now m.pager.levels.disk.rest in
     let within = c.translate_in.ensures.within in
     let body = c.translate_in.ensures.body in
-    fresh-came (core_of m.parts) (core_of c.translate_in.new.p) c.args.s.0 within.about c.requires.leaf.1
+    fresh-came (core_of m.pager.levels.parts) (core_of c.translate_in.new.p) c.args.s.0 within.about c.requires.leaf.1
     (not-fresh (core_of c.translate_in.new.p) disk c.args.s.0 body.0 (object_in (raw_of m.buf)) (keeps-of g c told).backed body.1.place (ap disk (within.live c.args.s.0 c.requires.leaf.0).1 ∙ c.requires.there told))
 
 pub returns-clause-quiet : goal.returns-clause-quiet
 unfolding loom_told
 returns-clause-quiet g c =
     let m = c.args.self.now in
-    let now = m.disk.host.now in
-    subst (λ (k : Ledger). IsQuiet (loom_told g.H.Host m) (told_of g.H.Host now m.disk.rest (core_of c.translate_in.new.p) m.regs m.pinned k)) (sym c.count_fetch.ensures)
-    (quiet-is g.H.Host now now m.disk.rest m.disk.rest (core_of m.parts) (core_of c.translate_in.new.p) m.regs m.pinned m.ledger (kept-rooted m.parts m.regs m.pinned m.ledger c.requires.sound.kept) c.translate_in.ensures.parts.core c.requires.sound.kept.cached (calm-of g c)
+    let now = m.pager.levels.disk.host.now in
+    subst (λ (k : Ledger). IsQuiet (loom_told g.H.Host m) (told_of g.H.Host now m.pager.levels.disk.rest (core_of c.translate_in.new.p) m.regs m.pager.pinned k)) (sym c.count_fetch.ensures)
+    (quiet-is g.H.Host now now m.pager.levels.disk.rest m.pager.levels.disk.rest (core_of m.pager.levels.parts) (core_of c.translate_in.new.p) m.regs m.pager.pinned m.ledger (kept-rooted m.pager.levels.parts m.regs m.pager.pinned m.ledger c.requires.sound.kept) c.translate_in.ensures.parts.core c.requires.sound.kept.cached (calm-of g c)
     (read-only g.H.Host now now (read-itself g.H.Host now)) refl (λ told. (keeps-of g c told).held))
 
 pub returns-clause-counted : goal.returns-clause-counted
@@ -69,8 +70,8 @@ returns-clause-sound g c =
     let m = c.args.self.now in
     let q = c.translate_in.new.p in
     record {
-      kept = fetched-kept q m.regs m.pinned m.ledger c.count_fetch.new.self _ c.count_fetch.ensures (calm-kept m.parts q m.regs m.pinned m.ledger c.requires.sound.kept (calm-of g c) c.translate_in.ensures.parts (c.translate_in.ensures.within.tight c.requires.sound.kept.tight) c.translate_in.ensures.size);
-      over = fetched-over g.H.Host m.disk.host.now m.disk.rest (core_of q) m.ledger c.count_fetch.new.self _ c.count_fetch.ensures record {
+      kept = fetched-kept q m.regs m.pager.pinned m.ledger c.count_fetch.new.self _ c.count_fetch.ensures (calm-kept m.pager.levels.parts q m.regs m.pager.pinned m.ledger c.requires.sound.kept (calm-of g c) c.translate_in.ensures.parts (c.translate_in.ensures.within.tight c.requires.sound.kept.tight) c.translate_in.ensures.size);
+      over = fetched-over g.H.Host m.pager.levels.disk.host.now m.pager.levels.disk.rest (core_of q) m.ledger c.count_fetch.new.self _ c.count_fetch.ensures record {
         stands = c.requires.sound.over.stands;
         backed = λ told. (keeps-of g c told).backed;
         counted = λ told. let was = c.requires.sound.over.counted told in let same = fresh-of g c told in omega (arith, was, same);
@@ -79,8 +80,8 @@ returns-clause-sound g c =
         valued = λ told. subst (λ (d : Disk). IsValued d) (sym (keeps-of g c told).held) (c.requires.sound.over.valued told);
       };
       soon = subst (λ (k : Ledger). m.due ≤ k.next + k.entries / 8) (sym c.count_fetch.ensures) c.requires.sound.soon;
-      exact = exact-next g.H.Host q m.disk.host.now m.disk.rest m.ledger.next c.count_fetch.new.self.next [] (ap (λ (k : Ledger). k.next) c.count_fetch.ensures)
-          (exact-brought g.H.Host m.parts q m.disk.host.now m.disk.host.now m.disk.rest m.disk.rest c.args.s.0 m.ledger.next c.requires.sound.exact refl (read-itself g.H.Host m.disk.host.now) c.translate_in.ensures.parts (keeps-of g c) c.translate_in.ensures.naming c.translate_in.ensures.within);
+      exact = exact-next g.H.Host q m.pager.levels.disk.host.now m.pager.levels.disk.rest m.ledger.next c.count_fetch.new.self.next [] (ap (λ (k : Ledger). k.next) c.count_fetch.ensures)
+          (exact-brought g.H.Host m.pager.levels.parts q m.pager.levels.disk.host.now m.pager.levels.disk.host.now m.pager.levels.disk.rest m.pager.levels.disk.rest c.args.s.0 m.ledger.next c.requires.sound.exact refl (read-itself g.H.Host m.pager.levels.disk.host.now) c.translate_in.ensures.parts (keeps-of g c) c.translate_in.ensures.naming c.translate_in.ensures.within);
       thin = thin-quiet g.H.Host c.args.self.now _ c.requires.sound.thin (λ on. on) (returns-clause-quiet g c);
     }
 
@@ -88,11 +89,11 @@ pub returns-clause-gentle : goal.returns-clause-gentle
 unfolding loom_told
 returns-clause-gentle g c =
     let m = c.args.self.now in
-    let x = core_of m.parts in
+    let x = core_of m.pager.levels.parts in
     let y = core_of c.translate_in.new.p in
     record {
       remains = within-remains c.args.s.0 x y c.translate_in.ensures.within c.requires.leaf.1;
-      read = read-itself g.H.Host m.disk.host.now;
+      read = read-itself g.H.Host m.pager.levels.disk.host.now;
       cache = ap (λ (k : Ledger). cache_of y (found k.rows) k.mark k.begun) c.count_fetch.ensures
           ∙ cache-same x y (found m.ledger.rows) m.ledger.mark m.ledger.begun c.requires.sound.kept.parts.core c.translate_in.ensures.parts.core (within-marks x y c.args.s.0 c.requires.sound.kept.parts.core c.translate_in.ensures.parts.core c.translate_in.ensures.within) c.requires.sound.kept.cached;
     }
@@ -102,3 +103,6 @@ returns-clause-next g c = ap (λ (k : Ledger). k.next) c.count_fetch.ensures
 
 pub returns-clause-minds : goal.returns-clause-minds
 returns-clause-minds g c = minds-come g.H.Host c.args.self.now _ c.args.s.0 c.requires.sound (returns-clause-sound g c) c.translate_in.ensures.within (c.translate_in.ensures.within.live c.args.s.0 c.requires.leaf.0).1 (returns-clause-gentle g c).cache
+
+pub invariant_of-levels : goal.invariant_of-levels
+invariant_of-levels g c = let l = c.args.self.now.pager.levels in record { whole = come-whole l.parts c.translate_in.new.p c.args.s.0 l.whole c.translate_in.ensures.parts c.translate_in.ensures.within c.requires.leaf.0 c.requires.leaf.1 }

@@ -9,9 +9,9 @@ use Rattle.loom_memory.proofs.RegLaws.{ready-put}
 use Rattle.loom_memory.proofs.memory.LoomMemory.copy.Goals as goal
 use Rattle.loom_memory.proofs.memory.LoomMemory.copy.Given as given
 
-value-is : (g : given.Over) (c : goal.After-put_word g) → meant (core_of c.args.self.now.parts).entries [] 0 c.word_of-w.result ≡ (loom_told g.H.Host c.args.self.now).regs c.args.from
+value-is : (g : given.Over) (c : goal.After-put_word g) → meant (core_of c.args.self.now.pager.levels.parts).entries [] 0 c.word_of-w.result ≡ (loom_told g.H.Host c.args.self.now).regs c.args.from
 unfolding loom_told
-value-is g c = ap (meant (core_of c.args.self.now.parts).entries [] 0) c.word_of-w.ensures.word
+value-is g c = ap (meant (core_of c.args.self.now.pager.levels.parts).entries [] 0) c.word_of-w.ensures.word
 
 pub returns-clause-told : goal.returns-clause-told
 returns-clause-told g c = c.put_word.ensures.told ∙ ap (λ (v : Value). record (loom_told g.H.Host c.args.self.now) { regs = set_register (loom_told g.H.Host c.args.self.now).regs c.args.to v }) (value-is g c)

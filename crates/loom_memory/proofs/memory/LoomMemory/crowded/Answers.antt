@@ -6,10 +6,10 @@ use Rattle.loom_memory.specs.Makings.{OnCoreFull}
 use Rattle.loom_memory.proofs.memory.LoomMemory.crowded.Goals as goal
 
 pub overflow_add-base : goal.overflow_add-base
-overflow_add-base g c = let low = c.requires.sound.over.based.low c.in-Some.base c.in-Some.is in let most = room-most c.args.self.now.disk.rest in let early = c.requires.early in omega (arith, low, most, early)
+overflow_add-base g c = let low = c.requires.sound.over.based.low c.in-Some.base c.in-Some.is in let most = room-most c.args.self.now.pager.levels.disk.rest in let early = c.requires.early in omega (arith, low, most, early)
 
 pub overflow_add-base-in-Some : goal.overflow_add-base-in-Some
-overflow_add-base-in-Some g c = let low = c.requires.sound.over.based.low c.in-Some.base c.in-Some.is in let most = room-most c.args.self.now.disk.rest in let early = c.requires.early in omega (arith, low, most, early)
+overflow_add-base-in-Some g c = let low = c.requires.sound.over.based.low c.in-Some.base c.in-Some.is in let most = room-most c.args.self.now.pager.levels.disk.rest in let early = c.requires.early in omega (arith, low, most, early)
 
 pub returns-clause-err : goal.returns-clause-err
 returns-clause-err g c =

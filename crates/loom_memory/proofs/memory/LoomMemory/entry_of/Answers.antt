@@ -31,7 +31,7 @@ pub returns-in-Some-clause-steady : goal.returns-in-Some-clause-steady
 returns-in-Some-clause-steady g c = λ room. c.entry_for.ensures.steady
 
 pub returns-in-None-clause-steady : goal.returns-in-None-clause-steady
-returns-in-None-clause-steady g c = none-wanting (IsSteady g.H.Host c.args.self.now c.free_entry.new.self) c.free_entry.result c.args.self.now.parts (spare_of c.args.self.now.parts) refl c.in-None.ensures.none.none
+returns-in-None-clause-steady g c = none-wanting (IsSteady g.H.Host c.args.self.now c.free_entry.new.self) c.free_entry.result c.args.self.now.pager.levels.parts (spare_of c.args.self.now.pager.levels.parts) refl c.in-None.ensures.none.none
 
 pub returns-in-Some-clause-unspent : goal.returns-in-Some-clause-unspent
 returns-in-Some-clause-unspent g c = λ unspent. c.entry_for.ensures.steady

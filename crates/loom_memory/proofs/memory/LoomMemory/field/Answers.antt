@@ -25,20 +25,20 @@ pub word_in_body-requires-clause-there : goal.word_in_body-requires-clause-there
 word_in_body-requires-clause-there g c = (c.in-Some.ensures.loaded.at, c.in-Some.ensures.loaded.place)
 
 pub put_word-requires-clause-used : goal.put_word-requires-clause-used
-put_word-requires-clause-used g c = λ is. let at = c.in-Some-word_in_body.ensures.word in word-live (core_of c.args.self.now.parts) c.in-Some.s.0 at.0 c.args.i c.in-Some-word_in_body.w c.requires.fit.sound.kept.parts.core at.1 is
+put_word-requires-clause-used g c = λ is. let at = c.in-Some-word_in_body.ensures.word in word-live (core_of c.args.self.now.pager.levels.parts) c.in-Some.s.0 at.0 c.args.i c.in-Some-word_in_body.w c.requires.fit.sound.kept.parts.core at.1 is
 
 pub put_word-requires-clause-some : goal.put_word-requires-clause-some
 put_word-requires-clause-some g c = c.in-Some-word_in_body.ensures.word.2
 
-brings : (g : given.Over) (c : goal.After-put_word g) → IsTrue (loom_told g.H.Host c.args.self.now).tells → brought (loom_told g.H.Host c.args.self.now).heap (loom_told g.H.Host c.args.self.now).regs (Field c.args.to c.args.of c.args.i) ≡ Some (meant (core_of c.args.self.now.parts).entries [] 0 c.in-Some-word_in_body.w)
+brings : (g : given.Over) (c : goal.After-put_word g) → IsTrue (loom_told g.H.Host c.args.self.now).tells → brought (loom_told g.H.Host c.args.self.now).heap (loom_told g.H.Host c.args.self.now).regs (Field c.args.to c.args.of c.args.i) ≡ Some (meant (core_of c.args.self.now.pager.levels.parts).entries [] 0 c.in-Some-word_in_body.w)
 unfolding loom_told
 brings g c = λ told.
     let m = c.args.self.now in
     let at = c.in-Some-word_in_body.ensures.word in
-    field-told (g.H.Host.tells Work) (core_of m.parts) (disk_of g.H.Host m.disk.host.now m.disk.rest) m.ledger.next c.in-Some.s.0 at.0 c.args.to c.args.of c.args.i c.in-Some-word_in_body.w (loom_told g.H.Host m).regs told c.requires.fit.sound.kept.parts.core at.1 at.2 (ap (meant (core_of m.parts).entries [] 0) (sym c.in-Some.ensures.word))
+    field-told (g.H.Host.tells Work) (core_of m.pager.levels.parts) (disk_of g.H.Host m.pager.levels.disk.host.now m.pager.levels.disk.rest) m.ledger.next c.in-Some.s.0 at.0 c.args.to c.args.of c.args.i c.in-Some-word_in_body.w (loom_told g.H.Host m).regs told c.requires.fit.sound.kept.parts.core at.1 at.2 (ap (meant (core_of m.pager.levels.parts).entries [] 0) (sym c.in-Some.ensures.word))
 
 taken-of : (g : given.Over) (c : goal.After-put_word g) → IsTaken (loom_told g.H.Host c.args.self.now) (loom_told g.H.Host c.put_word.new.self) c.args.to c.args.of c.args.i
-taken-of g c = let b = told-bounds g.H.Host c.args.self.now in taken-is (loom_told g.H.Host c.args.self.now) (loom_told g.H.Host c.put_word.new.self) c.args.to c.args.of c.args.i (meant (core_of c.args.self.now.parts).entries [] 0 c.in-Some-word_in_body.w) b.0 b.1 c.put_word.ensures.told (brings g c)
+taken-of g c = let b = told-bounds g.H.Host c.args.self.now in taken-is (loom_told g.H.Host c.args.self.now) (loom_told g.H.Host c.put_word.new.self) c.args.to c.args.of c.args.i (meant (core_of c.args.self.now.pager.levels.parts).entries [] 0 c.in-Some-word_in_body.w) b.0 b.1 c.put_word.ensures.told (brings g c)
 
 pub returns-in-Some-word_in_body-clause-access : goal.returns-in-Some-word_in_body-clause-access
 returns-in-Some-word_in_body-clause-access g c = let m = c.args.self.now in field-last (Ok tt) (loom_told g.H.Host m) (loom_told g.H.Host m) (loom_told g.H.Host c.put_word.new.self) c.args.to c.args.of c.args.i (quiet-same g.H.Host m) (taken-of g c) tt (c.in-Some.ensures.core (Field c.args.to c.args.of c.args.i) refl refl)

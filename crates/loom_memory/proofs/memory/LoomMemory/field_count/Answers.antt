@@ -11,7 +11,7 @@ use Rattle.loom_memory.specs.Memory.{loom_told, word_in, IsSound}
 use Rattle.loom_memory.proofs.GlanceLaws.{found-told, name-told, none-told, number-told}
 use Rattle.loom_memory.proofs.memory.LoomMemory.field_count.Goals as goal
 
-count-told : {H : Type 0} (host : Ghosts H) (m : LoomMemory H) (of w : ℕ) (found : Option ℕ) → IsSound host m → w ≡ word_in m.regs of → IsRef ((loom_told host m).regs of) → OfBody (core_of m.parts) w (λ b. found ≡ field_count b) → OnSome found (IsSome (place_of ((core_of m.parts).entries w).state))
+count-told : {H : Type 0} (host : Ghosts H) (m : LoomMemory H host) (of w : ℕ) (found : Option ℕ) → IsSound host m → w ≡ word_in m.regs of → IsRef ((loom_told host m).regs of) → OfBody (core_of m.pager.levels.parts) w (λ b. found ≡ field_count b) → OnSome found (IsSome (place_of ((core_of m.pager.levels.parts).entries w).state))
     → IfSome found (λ n. IsPartAt (loom_told host m) of field_count (Some n))
 count-told {H} host m of w None sound same ref body there = tt
 count-told {H} host m of w (Some n) sound same ref body there = record { name = λ some. ref; there = found-told host m of w field_count (Some n) sound same there body }

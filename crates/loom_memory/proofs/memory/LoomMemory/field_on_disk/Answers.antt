@@ -53,7 +53,7 @@ returns-in-Ok-clause-searched g c =
 pub returns-in-Ok-clause-damage : goal.returns-in-Ok-clause-damage
 returns-in-Ok-clause-damage g c =
     let m = c.args.self.now in
-    thinned-damage c.take_field.result g.H.Host m c.load_with_room.new.self c.args.of c.in-Ok.s.0 c.take_field.new.self.disk.rest (HasRoom m.parts (words_read c.take_field.new.self) 27) c.in-Ok.ensures.sound c.in-Ok.ensures.thinned c.requires.may.names c.in-Ok.ensures.word c.take_field.ensures.damage
+    thinned-damage c.take_field.result g.H.Host m c.load_with_room.new.self c.args.of c.in-Ok.s.0 c.take_field.new.self.pager.levels.disk.rest (HasRoom m.pager.levels.parts (words_read c.take_field.new.self) 27) c.in-Ok.ensures.sound c.in-Ok.ensures.thinned c.requires.may.names c.in-Ok.ensures.word c.take_field.ensures.damage
 
 pub returns-in-Ok-clause-brings : goal.returns-in-Ok-clause-brings
 returns-in-Ok-clause-brings g c = brings-then c.args.self.now c.load_with_room.new.self c.take_field.new.self _ c.load_with_room.ensures.brings c.take_field.ensures.brings

@@ -26,12 +26,12 @@ lack-requires-clause-has g c = λ told.
     subst (λ (t : Told). Has t.heap c.args.name) (sym quiet.same) (c.requires.named told).0
 
 pub lack-requires-clause-spent : goal.lack-requires-clause-spent
-lack-requires-clause-spent g c = spent-then (core_of c.clear.new.self.parts) (core_of c.entry_for.new.self.parts) (spare_of c.clear.new.self.parts) (spare_of c.entry_for.new.self.parts) c.args.name c.in-None.ensures.none c.in-None.ensures.same.0 c.in-None.ensures.same.1
+lack-requires-clause-spent g c = spent-then (core_of c.clear.new.self.pager.levels.parts) (core_of c.entry_for.new.self.pager.levels.parts) (spare_of c.clear.new.self.pager.levels.parts) (spare_of c.entry_for.new.self.pager.levels.parts) c.args.name c.in-None.ensures.none c.in-None.ensures.same.0 c.in-None.ensures.same.1
 
 pub lack-requires-clause-bare : goal.lack-requires-clause-bare
 lack-requires-clause-bare g c =
     let n = c.clear.new.self in
-    bare-then (core_of n.parts) (core_of c.entry_for.new.self.parts) n.pinned c.entry_for.new.self.pinned (bare-by c.in-Ok.enough n.parts n.pinned (largest_of n.parts.segment) c.in-Ok.ensures.room c.in-Ok.ensures.short c.in-None.ensures.none.none) c.in-None.ensures.same.0 c.entry_for.ensures.pins
+    bare-then (core_of n.pager.levels.parts) (core_of c.entry_for.new.self.pager.levels.parts) n.pager.pinned c.entry_for.new.self.pager.pinned (bare-by c.in-Ok.enough n.pager.levels.parts n.pager.pinned (largest_of n.pager.levels.parts.segment) c.in-Ok.ensures.room c.in-Ok.ensures.short c.in-None.ensures.none.none) c.in-None.ensures.same.0 c.entry_for.ensures.pins
 
 pub returns-in-None-clause-err : goal.returns-in-None-clause-err
 returns-in-None-clause-err g c = refused-of (loom_told g.H.Host c.args.self.now) (loom_told g.H.Host c.entry_for.new.self) (loom_told g.H.Host c.lack.new.self) c.args.name c.lack.result

@@ -17,7 +17,7 @@ pub returns-then-has_room-clause-thinned : goal.returns-then-has_room-clause-thi
 returns-then-has_room-clause-thinned g c = quiet-thinned (loom_told g.H.Host c.args.self.now) (loom_told g.H.Host c.args.self.now) (quiet-same g.H.Host c.args.self.now) c.requires.ready
 
 pub returns-then-has_room-clause-bodies : goal.returns-then-has_room-clause-bodies
-returns-then-has_room-clause-bodies g c = λ told. bodies-same c.args.self.now.parts c.args.self.now.parts (loom_told g.H.Host c.args.self.now).heap refl
+returns-then-has_room-clause-bodies g c = λ told. bodies-same c.args.self.now.pager.levels.parts c.args.self.now.pager.levels.parts (loom_told g.H.Host c.args.self.now).heap refl
 
 pub returns-then-has_room-clause-minds : goal.returns-then-has_room-clause-minds
 returns-then-has_room-clause-minds g c = minds-refl g.H.Host c.args.self.now (λ k. ⊥) c.requires.sound
@@ -26,7 +26,7 @@ pub returns-then-self-clause-thinned : goal.returns-then-self-clause-thinned
 returns-then-self-clause-thinned g c = quiet-thinned (loom_told g.H.Host c.args.self.now) (loom_told g.H.Host c.args.self.now) (quiet-same g.H.Host c.args.self.now) c.requires.ready
 
 pub returns-then-self-clause-bodies : goal.returns-then-self-clause-bodies
-returns-then-self-clause-bodies g c = λ told. bodies-same c.args.self.now.parts c.args.self.now.parts (loom_told g.H.Host c.args.self.now).heap refl
+returns-then-self-clause-bodies g c = λ told. bodies-same c.args.self.now.pager.levels.parts c.args.self.now.pager.levels.parts (loom_told g.H.Host c.args.self.now).heap refl
 
 pub returns-then-self-clause-minds : goal.returns-then-self-clause-minds
 returns-then-self-clause-minds g c = minds-refl g.H.Host c.args.self.now (λ k. ⊥) c.requires.sound
@@ -51,22 +51,22 @@ pub returns-clause-gone : goal.returns-clause-gone
 returns-clause-gone g c = freed-if c.thin.result g.H.Host c.args.self.now c.thin.new.self c.args.words c.args.entries c.thin.ensures.again
 
 pub returns-then-has_room-clause-calm : goal.returns-then-has_room-clause-calm
-returns-then-has_room-clause-calm g c = still-calm c.args.self.now.pinned (core_of c.args.self.now.parts)
+returns-then-has_room-clause-calm g c = still-calm c.args.self.now.pager.pinned (core_of c.args.self.now.pager.levels.parts)
 
 pub returns-then-self-clause-calm : goal.returns-then-self-clause-calm
-returns-then-self-clause-calm g c = still-calm c.args.self.now.pinned (core_of c.args.self.now.parts)
+returns-then-self-clause-calm g c = still-calm c.args.self.now.pager.pinned (core_of c.args.self.now.pager.levels.parts)
 
 pub returns-then-self-2-clause-thinned : goal.returns-then-self-2-clause-thinned
 returns-then-self-2-clause-thinned g c = quiet-thinned (loom_told g.H.Host c.args.self.now) (loom_told g.H.Host c.args.self.now) (quiet-same g.H.Host c.args.self.now) c.requires.ready
 
 pub returns-then-self-2-clause-bodies : goal.returns-then-self-2-clause-bodies
-returns-then-self-2-clause-bodies g c = λ told. bodies-same c.args.self.now.parts c.args.self.now.parts (loom_told g.H.Host c.args.self.now).heap refl
+returns-then-self-2-clause-bodies g c = λ told. bodies-same c.args.self.now.pager.levels.parts c.args.self.now.pager.levels.parts (loom_told g.H.Host c.args.self.now).heap refl
 
 pub returns-then-self-2-clause-minds : goal.returns-then-self-2-clause-minds
 returns-then-self-2-clause-minds g c = minds-refl g.H.Host c.args.self.now (λ k. ⊥) c.requires.sound
 
 pub returns-then-self-2-clause-calm : goal.returns-then-self-2-clause-calm
-returns-then-self-2-clause-calm g c = still-calm c.args.self.now.pinned (core_of c.args.self.now.parts)
+returns-then-self-2-clause-calm g c = still-calm c.args.self.now.pager.pinned (core_of c.args.self.now.pager.levels.parts)
 
 pub returns-then-self-2-clause-gone : goal.returns-then-self-2-clause-gone
 returns-then-self-2-clause-gone g c = λ lacks due. absurd (let early = c.if-self-2.true in omega (arith, early, due))

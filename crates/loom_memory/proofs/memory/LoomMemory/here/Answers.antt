@@ -21,13 +21,13 @@ pub used_entry-e-requires : goal.used_entry-e-requires
 unfolding core_of
 used_entry-e-requires g c = (entry-at g.H.Host c.args.self.now c.args.of c.word_of-w.result c.requires.sound c.requires.name c.word_of-w.ensures.word).used
 
-there-of : (g : given.Over) (c : goal.After-chunks_never_overlap g) → (p : ℕ) × (place_of ((core_of c.args.self.now.parts).entries c.word_of-w.result).state ≡ Some p)
+there-of : (g : given.Over) (c : goal.After-chunks_never_overlap g) → (p : ℕ) × (place_of ((core_of c.args.self.now.pager.levels.parts).entries c.word_of-w.result).state ≡ Some p)
 unfolding core_of
 there-of g c = let there = some-of c.place.result c.is_some.result c.is_some.ensures c.if-is_some.true in (there.0, ap (λ (e : Entry). place_of e.state) (sym c.used_entry-e.ensures) ∙ sym c.place.ensures ∙ there.1)
 
-register-is : (g : given.Over) (c : goal.After-chunks_never_overlap g) → (loom_told g.H.Host c.args.self.now).regs c.args.of ≡ meant (core_of c.args.self.now.parts).entries [] 0 c.word_of-w.result
+register-is : (g : given.Over) (c : goal.After-chunks_never_overlap g) → (loom_told g.H.Host c.args.self.now).regs c.args.of ≡ meant (core_of c.args.self.now.pager.levels.parts).entries [] 0 c.word_of-w.result
 unfolding loom_told
-register-is g c = ap (meant (core_of c.args.self.now.parts).entries [] 0) (sym c.word_of-w.ensures.word)
+register-is g c = ap (meant (core_of c.args.self.now.pager.levels.parts).entries [] 0) (sym c.word_of-w.ensures.word)
 
 pub returns-then-is_some-clause-loaded : goal.returns-then-is_some-clause-loaded
 unfolding loom_told
@@ -37,7 +37,7 @@ returns-then-is_some-clause-loaded g c =
     record {
       at = there.0;
       place = there.1;
-      object = λ told. object-loaded (g.H.Host.tells Work) (core_of n.parts) (disk_of g.H.Host n.disk.host.now n.disk.rest) n.ledger.next c.word_of-w.result there.0 ((loom_told g.H.Host n).regs c.args.of) told c.requires.sound.kept.parts.core there.1 (register-is g c);
+      object = λ told. object-loaded (g.H.Host.tells Work) (core_of n.pager.levels.parts) (disk_of g.H.Host n.pager.levels.disk.host.now n.pager.levels.disk.rest) n.ledger.next c.word_of-w.result there.0 ((loom_told g.H.Host n).regs c.args.of) told c.requires.sound.kept.parts.core there.1 (register-is g c);
     }
 
 pub returns-then-is_some-clause-core : goal.returns-then-is_some-clause-core
@@ -47,8 +47,8 @@ returns-then-is_some-clause-core g c =
     let there = there-of g c in
     core-has (loom_told g.H.Host n) (loom_told g.H.Host n) (told-bounds g.H.Host n).0 c.args.of (quiet-same g.H.Host n) (told-bounds g.H.Host n).1
     (λ told.
-    let words = named-words (g.H.Host.tells Work) (core_of n.parts) (disk_of g.H.Host n.disk.host.now n.disk.rest) n.ledger.next c.word_of-w.result there.0 ((loom_told g.H.Host n).regs c.args.of) told c.requires.sound.kept.parts.core there.1 (register-is g c) in
-    let most = body-fits (core_of n.parts) (chunks_of n.parts.segment) (free_of n.parts.segment) (size_of n.parts.segment) c.word_of-w.result there.0 c.requires.sound.kept.parts.core refl c.chunks_never_overlap.ensures there.1 in
+    let words = named-words (g.H.Host.tells Work) (core_of n.pager.levels.parts) (disk_of g.H.Host n.pager.levels.disk.host.now n.pager.levels.disk.rest) n.ledger.next c.word_of-w.result there.0 ((loom_told g.H.Host n).regs c.args.of) told c.requires.sound.kept.parts.core there.1 (register-is g c) in
+    let most = body-fits (core_of n.pager.levels.parts) (chunks_of n.pager.levels.parts.segment) (free_of n.pager.levels.parts.segment) (size_of n.pager.levels.parts.segment) c.word_of-w.result there.0 c.requires.sound.kept.parts.core refl c.chunks_never_overlap.ensures there.1 in
     let size = c.requires.sound.kept.size in
     let core = (told-bounds g.H.Host n).2 in
     omega (arith, words, most, size, core))
@@ -61,7 +61,7 @@ returns-then-is_some-clause-there g c = resident-at g.H.Host c.args.self.now c.a
 
 pub returns-clause-leaf : goal.returns-clause-leaf
 unfolding core_of
-returns-clause-leaf g c = ap (λ (w : ℕ). place_of ((core_of c.args.self.now.parts).entries w).state) (sym c.word_of-w.ensures.word) ∙ ap (λ (e : Entry). place_of e.state) (sym c.used_entry-e.ensures) ∙ sym c.place.ensures ∙ none-of c.place.result c.is_some.result c.is_some.ensures c.if-is_some.false
+returns-clause-leaf g c = ap (λ (w : ℕ). place_of ((core_of c.args.self.now.pager.levels.parts).entries w).state) (sym c.word_of-w.ensures.word) ∙ ap (λ (e : Entry). place_of e.state) (sym c.used_entry-e.ensures) ∙ sym c.place.ensures ∙ none-of c.place.result c.is_some.result c.is_some.ensures c.if-is_some.false
 
 pub returns-clause-away : goal.returns-clause-away
 unfolding core_of

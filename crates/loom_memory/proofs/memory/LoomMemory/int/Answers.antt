@@ -16,7 +16,7 @@ use Rattle.loom_memory.proofs.memory.LoomMemory.int.Goals as goal
 
 pub returns-clause-told : goal.returns-clause-told
 returns-clause-told g c = c.put_number.ensures.told ∙ ap (λ (v : Value). record (loom_told g.H.Host c.args.self.now) { regs = set_register (loom_told g.H.Host c.args.self.now).regs c.args.to v })
-    (number-means (core_of c.args.self.now.parts).entries c.short_int-w.result c.args.v c.short_int-w.ensures.odd (let is = small_number c.args.v c.requires.range in c.short_int-w.ensures.value (subst IsSmallInteger (sym is) c.requires.range) ∙ is))
+    (number-means (core_of c.args.self.now.pager.levels.parts).entries c.short_int-w.result c.args.v c.short_int-w.ensures.odd (let is = small_number c.args.v c.requires.range in c.short_int-w.ensures.value (subst IsSmallInteger (sym is) c.requires.range) ∙ is))
 
 -- a register that has the value already
 kept : (regs : ℕ → Value) (to k : ℕ) (v : Value) → regs to ≡ v → regs k ≡ set_register regs to v k
@@ -30,8 +30,8 @@ unfolding loom_told
 returns-then-word_of-w-clause-told g c =
     let m = c.args.self.now in
     let number = small_number c.args.v c.requires.range in
-    stays (loom_told g.H.Host m) c.args.to (Int c.args.v) (ap (meant (core_of m.parts).entries [] 0) (sym c.word_of.ensures.word ∙ c.if-word_of-w.true)
-    ∙ number-means (core_of m.parts).entries c.short_int-w.result c.args.v c.short_int-w.ensures.odd (c.short_int-w.ensures.value (subst IsSmallInteger (sym number) c.requires.range) ∙ number))
+    stays (loom_told g.H.Host m) c.args.to (Int c.args.v) (ap (meant (core_of m.pager.levels.parts).entries [] 0) (sym c.word_of.ensures.word ∙ c.if-word_of-w.true)
+    ∙ number-means (core_of m.pager.levels.parts).entries c.short_int-w.result c.args.v c.short_int-w.ensures.odd (c.short_int-w.ensures.value (subst IsSmallInteger (sym number) c.requires.range) ∙ number))
 
 pub returns-clause-fit : goal.returns-clause-fit
 returns-clause-fit g c = record {

@@ -22,20 +22,20 @@ use Rattle.loom_memory.proofs.memory.LoomMemory.kind.Given as given
 
 pub used_entry-requires : goal.used_entry-requires
 unfolding core_of
-used_entry-requires g c = placed-used ((core_of c.load.new.self.parts).entries c.in-Ok.s.0).state c.in-Ok.ensures.loaded.at c.in-Ok.ensures.loaded.place
+used_entry-requires g c = placed-used ((core_of c.load.new.self.pager.levels.parts).entries c.in-Ok.s.0).state c.in-Ok.ensures.loaded.at c.in-Ok.ensures.loaded.place
 
-kind-same : (g : given.Over) (c : goal.After-used_entry g) → ((core_of c.load.new.self.parts).entries c.in-Ok.s.0).kind ≡ c.used_entry.result.kind
+kind-same : (g : given.Over) (c : goal.After-used_entry g) → ((core_of c.load.new.self.pager.levels.parts).entries c.in-Ok.s.0).kind ≡ c.used_entry.result.kind
 unfolding core_of
 kind-same g c = ap (λ (e : Entry). e.kind) (sym c.used_entry.ensures)
 
 pub returns-in-Ok-clause-access : goal.returns-in-Ok-clause-access
 returns-in-Ok-clause-access g c =
     let n = c.load.new.self in
-    let e = (core_of n.parts).entries c.in-Ok.s.0 in
+    let e = (core_of n.pager.levels.parts).entries c.in-Ok.s.0 in
     let there = c.in-Ok.ensures.loaded in
     read-freed (loom_told g.H.Host c.args.self.now) (loom_told g.H.Host n) (KindOf c.args.of) c.args.of OfKind c.used_entry.result.kind refl refl refl c.in-Ok.ensures.thinned
     (λ told. ap (λ (o : Option Object). option_and_then (λ k. Some (OfKind k)) (option_and_then (λ (o : Object). Some (kind_of o.body)) o)) (there.object (told-tells g.H.Host c.args.self.now told))
-    ∙ ap (λ (k : Kind). Some (OfKind k)) (kind-is (core_of n.parts).entries (fields_there (disk_of g.H.Host n.disk.host.now n.disk.rest e.name)) ((core_of n.parts).chunks there.at).words e.kind e.len ∙ kind-same g c))
+    ∙ ap (λ (k : Kind). Some (OfKind k)) (kind-is (core_of n.pager.levels.parts).entries (fields_there (disk_of g.H.Host n.pager.levels.disk.host.now n.pager.levels.disk.rest e.name)) ((core_of n.pager.levels.parts).chunks there.at).words e.kind e.len ∙ kind-same g c))
     (c.in-Ok.ensures.core (KindOf c.args.of) refl refl)
 
 pub returns-in-Err-clause-access : goal.returns-in-Err-clause-access

@@ -29,7 +29,7 @@ word_for-requires-clause-named g c = λ told n is.
     let m = c.args.self.now in
     subst (λ (t : Told). IsNameable t.heap n) (sym c.in-Ok.ensures.quiet.same)
     (brought-nameable (loom_told g.H.Host m).heap (loom_told g.H.Host m).regs (loom_told g.H.Host m).slots c.args.of c.args.i n (c.requires.ready.whole told)
-    (lambda-told (g.H.Host.tells Work) (core_of m.parts) (disk_of g.H.Host m.disk.host.now m.disk.rest) m.ledger.next c.args.s.0 c.args.at.place 0 c.args.of c.args.i (value_in c.in-Ok.long) (loom_told g.H.Host m).regs told c.requires.sound.kept.parts.core c.requires.lambda (c.in-Ok.ensures.long told) (ap (meant (core_of m.parts).entries [] 0) (sym c.requires.word))
+    (lambda-told (g.H.Host.tells Work) (core_of m.pager.levels.parts) (disk_of g.H.Host m.pager.levels.disk.host.now m.pager.levels.disk.rest) m.ledger.next c.args.s.0 c.args.at.place 0 c.args.of c.args.i (value_in c.in-Ok.long) (loom_told g.H.Host m).regs told c.requires.sound.kept.parts.core c.requires.lambda (c.in-Ok.ensures.long told) (ap (meant (core_of m.pager.levels.parts).entries [] 0) (sym c.requires.word))
     ∙ ap Some (value-is c.in-Ok.long c.in-Some.v (sym c.in-Some.ensures.value) ∙ is)))
 
 pub returns-in-Some-clause-quiet : goal.returns-in-Some-clause-quiet
@@ -39,7 +39,7 @@ pub returns-in-Some-clause-means : goal.returns-in-Some-clause-means
 unfolding loom_told
 returns-in-Some-clause-means g c = λ told.
     let m = c.args.self.now in
-    lambda-told (g.H.Host.tells Work) (core_of m.parts) (disk_of g.H.Host m.disk.host.now m.disk.rest) m.ledger.next c.args.s.0 c.args.at.place 0 c.args.of c.args.i (value_in c.in-Ok.long) (loom_told g.H.Host m).regs told c.requires.sound.kept.parts.core c.requires.lambda (c.in-Ok.ensures.long told) (ap (meant (core_of m.parts).entries [] 0) (sym c.requires.word))
+    lambda-told (g.H.Host.tells Work) (core_of m.pager.levels.parts) (disk_of g.H.Host m.pager.levels.disk.host.now m.pager.levels.disk.rest) m.ledger.next c.args.s.0 c.args.at.place 0 c.args.of c.args.i (value_in c.in-Ok.long) (loom_told g.H.Host m).regs told c.requires.sound.kept.parts.core c.requires.lambda (c.in-Ok.ensures.long told) (ap (meant (core_of m.pager.levels.parts).entries [] 0) (sym c.requires.word))
     ∙ ap Some (value-is c.in-Ok.long c.in-Some.v (sym c.in-Some.ensures.value) ∙ sym c.word_for.ensures.means)
 
 pub returns-in-Some-clause-regs : goal.returns-in-Some-clause-regs
@@ -49,21 +49,21 @@ pub returns-in-Some-clause-at : goal.returns-in-Some-clause-at
 returns-in-Some-clause-at g c =
     let n = c.read_lambda.new.self in
     let at = c.in-Ok.ensures.at in
-    (at.0, at-same (core_of n.parts) (core_of c.word_for.new.self.parts) c.args.s.0 c.args.at.place c.args.i at.0 (c.word_for.ensures.entries c.args.s.0 (placed-used ((core_of n.parts).entries c.args.s.0).state c.args.at.place at.1.place)) c.word_for.ensures.chunks at.1)
+    (at.0, at-same (core_of n.pager.levels.parts) (core_of c.word_for.new.self.pager.levels.parts) c.args.s.0 c.args.at.place c.args.i at.0 (c.word_for.ensures.entries c.args.s.0 (placed-used ((core_of n.pager.levels.parts).entries c.args.s.0).state c.args.at.place at.1.place)) c.word_for.ensures.chunks at.1)
 
 pub returns-in-Some-clause-mark : goal.returns-in-Some-clause-mark
 returns-in-Some-clause-mark g c =
     let n = c.read_lambda.new.self in
-    ap (λ (e : Entry). e.flags.marked) (c.word_for.ensures.entries c.args.s.0 (placed-used ((core_of n.parts).entries c.args.s.0).state c.args.at.place c.in-Ok.ensures.at.1.place)) ∙ c.in-Ok.ensures.mark
+    ap (λ (e : Entry). e.flags.marked) (c.word_for.ensures.entries c.args.s.0 (placed-used ((core_of n.pager.levels.parts).entries c.args.s.0).state c.args.at.place c.in-Ok.ensures.at.1.place)) ∙ c.in-Ok.ensures.mark
 
 none-there : (g : given.Over) (c : goal.After-amiss g) → IsTrue (loom_told g.H.Host c.args.self.now).tells → ⊥
 unfolding loom_told
 none-there g c = λ told.
     let m = c.args.self.now in
-    no-value c.in-Ok.long (sym c.in-None.ensures.value) (lambda-value (core_of m.parts) (disk_of g.H.Host m.disk.host.now m.disk.rest) c.args.s.0 c.args.at.place c.args.i (value_in c.in-Ok.long) c.requires.sound.kept.parts.core (c.requires.sound.over.valued told) c.requires.lambda (c.in-Ok.ensures.long told))
+    no-value c.in-Ok.long (sym c.in-None.ensures.value) (lambda-value (core_of m.pager.levels.parts) (disk_of g.H.Host m.pager.levels.disk.host.now m.pager.levels.disk.rest) c.args.s.0 c.args.at.place c.args.i (value_in c.in-Ok.long) c.requires.sound.kept.parts.core (c.requires.sound.over.valued told) c.requires.lambda (c.in-Ok.ensures.long told))
 
 pub amiss-requires-clause-used : goal.amiss-requires-clause-used
-amiss-requires-clause-used g c = placed-used ((core_of c.read_lambda.new.self.parts).entries c.args.s.0).state c.args.at.place c.in-Ok.ensures.at.1.place
+amiss-requires-clause-used g c = placed-used ((core_of c.read_lambda.new.self.pager.levels.parts).entries c.args.s.0).state c.args.at.place c.in-Ok.ensures.at.1.place
 
 pub returns-in-None-clause-err : goal.returns-in-None-clause-err
 returns-in-None-clause-err g c = λ a silent none. c.amiss.ensures.err (loom_told g.H.Host c.args.self.now) a c.in-Ok.ensures.quiet c.requires.ready silent none (none-there g c)
@@ -81,7 +81,7 @@ pub returns-in-Some-clause-peek : goal.returns-in-Some-clause-peek
 returns-in-Some-clause-peek g c = peek-trans g.H.Host c.args.self.now c.read_lambda.new.self c.word_for.new.self c.in-Ok.ensures.peek (steady-peek g.H.Host c.read_lambda.new.self c.word_for.new.self c.word_for.ensures.steady)
 
 pub returns-in-None-clause-damage : goal.returns-in-None-clause-damage
-returns-in-None-clause-damage g c = nowhere-damage c.amiss.new.self.disk.rest ((core_of c.args.self.now.parts).entries c.args.s.0).name c.amiss.result (c.amiss.ensures.is ∙ ap (Damaged NOWHERE) c.in-Ok.ensures.named)
+returns-in-None-clause-damage g c = nowhere-damage c.amiss.new.self.pager.levels.disk.rest ((core_of c.args.self.now.pager.levels.parts).entries c.args.s.0).name c.amiss.result (c.amiss.ensures.is ∙ ap (Damaged NOWHERE) c.in-Ok.ensures.named)
 
 pub returns-in-Some-clause-brings : goal.returns-in-Some-clause-brings
 returns-in-Some-clause-brings g c = c.word_for.ensures.steady.idle.fetches ∙ c.read_lambda.ensures.brings

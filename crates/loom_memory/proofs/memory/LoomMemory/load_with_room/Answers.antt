@@ -55,13 +55,13 @@ returns-in-Err-clause-err g c = λ a target none silent. c.in-Err.ensures.err a 
 
 pub returns-in-Err-bring-clause-err : goal.returns-in-Err-bring-clause-err
 returns-in-Err-bring-clause-err g c = λ a target none silent.
-    at-freed (loom_told g.H.Host c.args.self.now) (loom_told g.H.Host c.clear_first.new.self) (loom_told g.H.Host c.bring.new.self) ((core_of c.clear_first.new.self.parts).entries (slice_index_or c.args.self.now.regs c.index.result 0)).name c.in-Err-bring.f c.in-Ok.ensures.thinned c.in-Err-bring.ensures.err a c.args.of target
+    at-freed (loom_told g.H.Host c.args.self.now) (loom_told g.H.Host c.clear_first.new.self) (loom_told g.H.Host c.bring.new.self) ((core_of c.clear_first.new.self.pager.levels.parts).entries (slice_index_or c.args.self.now.regs c.index.result 0)).name c.in-Err-bring.f c.in-Ok.ensures.thinned c.in-Err-bring.ensures.err a c.args.of target
     (named-first g.H.Host c.args.self.now c.clear_first.new.self c.args.of (slice_index_or c.args.self.now.regs c.index.result 0) c.requires.sound c.in-Ok.ensures.sound c.requires.name
     (word-is c.args.self.now.regs c.index.result c.args.of c.index.ensures.same c.index.ensures.within c.requires.sound.kept.many) c.in-Ok.ensures.calm).name silent none
 
 pub returns-else-enough-clause-err : goal.returns-else-enough-clause-err
 returns-else-enough-clause-err g c = λ a target none silent.
-    at-freed (loom_told g.H.Host c.args.self.now) (loom_told g.H.Host c.clear_first.new.self) (loom_told g.H.Host c.want.new.self) ((core_of c.clear_first.new.self.parts).entries (slice_index_or c.args.self.now.regs c.index.result 0)).name c.want.result c.in-Ok.ensures.thinned c.want.ensures.err a c.args.of target
+    at-freed (loom_told g.H.Host c.args.self.now) (loom_told g.H.Host c.clear_first.new.self) (loom_told g.H.Host c.want.new.self) ((core_of c.clear_first.new.self.pager.levels.parts).entries (slice_index_or c.args.self.now.regs c.index.result 0)).name c.want.result c.in-Ok.ensures.thinned c.want.ensures.err a c.args.of target
     (named-first g.H.Host c.args.self.now c.clear_first.new.self c.args.of (slice_index_or c.args.self.now.regs c.index.result 0) c.requires.sound c.in-Ok.ensures.sound c.requires.name
     (word-is c.args.self.now.regs c.index.result c.args.of c.index.ensures.same c.index.ensures.within c.requires.sound.kept.many) c.in-Ok.ensures.calm).name silent none
 
@@ -71,9 +71,9 @@ returns-in-Ok-bring-clause-thinned g c = thinned-trans (loom_told g.H.Host c.arg
 pub want-requires-clause-ready : goal.want-requires-clause-ready
 want-requires-clause-ready g c = thinned-ready (loom_told g.H.Host c.args.self.now) (loom_told g.H.Host c.clear_first.new.self) c.in-Ok.ensures.thinned c.requires.ready
 
-register-is : (g : given.Over) (c : goal.After-chunks_never_overlap g) → (loom_told g.H.Host c.bring.new.self).regs c.args.of ≡ meant (core_of c.bring.new.self.parts).entries [] 0 (slice_index_or c.args.self.now.regs c.index.result 0)
+register-is : (g : given.Over) (c : goal.After-chunks_never_overlap g) → (loom_told g.H.Host c.bring.new.self).regs c.args.of ≡ meant (core_of c.bring.new.self.pager.levels.parts).entries [] 0 (slice_index_or c.args.self.now.regs c.index.result 0)
 unfolding loom_told
-register-is g c = ap (meant (core_of c.bring.new.self.parts).entries [] 0) (ap (λ (regs : List ℕ). word_in regs c.args.of) (c.in-Ok-bring.ensures.regs ∙ c.in-Ok.ensures.regs) ∙ sym (word-is c.args.self.now.regs c.index.result c.args.of c.index.ensures.same c.index.ensures.within c.requires.sound.kept.many))
+register-is g c = ap (meant (core_of c.bring.new.self.pager.levels.parts).entries [] 0) (ap (λ (regs : List ℕ). word_in regs c.args.of) (c.in-Ok-bring.ensures.regs ∙ c.in-Ok.ensures.regs) ∙ sym (word-is c.args.self.now.regs c.index.result c.args.of c.index.ensures.same c.index.ensures.within c.requires.sound.kept.many))
 
 pub returns-in-Ok-bring-clause-loaded : goal.returns-in-Ok-bring-clause-loaded
 unfolding loom_told
@@ -83,7 +83,7 @@ returns-in-Ok-bring-clause-loaded g c =
     record {
       at = there.0;
       place = there.1;
-      object = λ told. object-loaded (g.H.Host.tells Work) (core_of n.parts) (disk_of g.H.Host n.disk.host.now n.disk.rest) n.ledger.next (slice_index_or c.args.self.now.regs c.index.result 0) there.0 ((loom_told g.H.Host n).regs c.args.of) told c.in-Ok-bring.ensures.sound.kept.parts.core there.1 (register-is g c);
+      object = λ told. object-loaded (g.H.Host.tells Work) (core_of n.pager.levels.parts) (disk_of g.H.Host n.pager.levels.disk.host.now n.pager.levels.disk.rest) n.ledger.next (slice_index_or c.args.self.now.regs c.index.result 0) there.0 ((loom_told g.H.Host n).regs c.args.of) told c.in-Ok-bring.ensures.sound.kept.parts.core there.1 (register-is g c);
     }
 
 pub returns-in-Ok-bring-clause-core : goal.returns-in-Ok-bring-clause-core
@@ -96,8 +96,8 @@ returns-in-Ok-bring-clause-core g c = λ a target none.
     core-freed (loom_told g.H.Host m) (loom_told g.H.Host n) a c.args.of target (thinned-trans (loom_told g.H.Host m) (loom_told g.H.Host c.clear_first.new.self) (loom_told g.H.Host n) c.in-Ok.ensures.thinned c.in-Ok-bring.ensures.thinned)
     (core-has (loom_told g.H.Host n) (loom_told g.H.Host n) (told-bounds g.H.Host n).0 c.args.of (quiet-same g.H.Host n) (told-bounds g.H.Host n).1
     (λ told.
-    let words = named-words (g.H.Host.tells Work) (core_of n.parts) (disk_of g.H.Host n.disk.host.now n.disk.rest) n.ledger.next s there.0 ((loom_told g.H.Host n).regs c.args.of) told c.in-Ok-bring.ensures.sound.kept.parts.core there.1 (register-is g c) in
-    let most = body-fits (core_of n.parts) (chunks_of n.parts.segment) (free_of n.parts.segment) (size_of n.parts.segment) s there.0 c.in-Ok-bring.ensures.sound.kept.parts.core refl c.chunks_never_overlap.ensures there.1 in
+    let words = named-words (g.H.Host.tells Work) (core_of n.pager.levels.parts) (disk_of g.H.Host n.pager.levels.disk.host.now n.pager.levels.disk.rest) n.ledger.next s there.0 ((loom_told g.H.Host n).regs c.args.of) told c.in-Ok-bring.ensures.sound.kept.parts.core there.1 (register-is g c) in
+    let most = body-fits (core_of n.pager.levels.parts) (chunks_of n.pager.levels.parts.segment) (free_of n.pager.levels.parts.segment) (size_of n.pager.levels.parts.segment) s there.0 c.in-Ok-bring.ensures.sound.kept.parts.core refl c.chunks_never_overlap.ensures there.1 in
     let size = c.in-Ok-bring.ensures.sound.kept.size in
     let core = (told-bounds g.H.Host n).2 in
     omega (arith, words, most, size, core)) a target none)
@@ -116,11 +116,11 @@ returns-in-Ok-bring-clause-there g c =
 pub returns-in-Ok-bring-clause-bounded : goal.returns-in-Ok-bring-clause-bounded
 returns-in-Ok-bring-clause-bounded g c = bounded-at g.H.Host c.bring.new.self c.in-Ok-bring.ensures.sound c.chunks_never_overlap.ensures
 
-out-here : (g : given.Over) (c : goal.After-chunks_never_overlap g) → 1 ≤ outside (core_of c.args.self.now.parts) (slice_index_or c.args.self.now.regs c.index.result 0)
+out-here : (g : given.Over) (c : goal.After-chunks_never_overlap g) → 1 ≤ outside (core_of c.args.self.now.pager.levels.parts) (slice_index_or c.args.self.now.regs c.index.result 0)
 out-here g c = register-out g.H.Host c.args.self.now c.args.of (slice_index_or c.args.self.now.regs c.index.result 0) c.requires.sound c.requires.name (word-here g c)
 
-leaf-here : (g : given.Over) (c : goal.After-chunks_never_overlap g) → place_of ((core_of c.args.self.now.parts).entries (word_in c.args.self.now.regs c.args.of)).state ≡ None → place_of ((core_of c.args.self.now.parts).entries (slice_index_or c.args.self.now.regs c.index.result 0)).state ≡ None
-leaf-here g c leaf = ap (λ (w : ℕ). place_of ((core_of c.args.self.now.parts).entries w).state) (word-here g c) ∙ leaf
+leaf-here : (g : given.Over) (c : goal.After-chunks_never_overlap g) → place_of ((core_of c.args.self.now.pager.levels.parts).entries (word_in c.args.self.now.regs c.args.of)).state ≡ None → place_of ((core_of c.args.self.now.pager.levels.parts).entries (slice_index_or c.args.self.now.regs c.index.result 0)).state ≡ None
+leaf-here g c leaf = ap (λ (w : ℕ). place_of ((core_of c.args.self.now.pager.levels.parts).entries w).state) (word-here g c) ∙ leaf
 
 pub returns-in-Ok-bring-clause-counted : goal.returns-in-Ok-bring-clause-counted
 returns-in-Ok-bring-clause-counted g c = λ leaf. c.in-Ok-bring.ensures.counted (c.in-Ok.ensures.leaf (slice_index_or c.args.self.now.regs c.index.result 0) (out-here g c) (leaf-here g c leaf)) ∙ ap counted c.clear_first.ensures.brings
@@ -130,7 +130,7 @@ returns-in-Ok-bring-clause-gentle g c = λ told leaf room.
     let m = c.args.self.now in
     let s = slice_index_or m.regs c.index.result 0 in
     let name = name_at ((loom_told g.H.Host m).regs c.args.of) in
-    let same = c.in-Ok.ensures.idle (room-less m.parts (words_at (loom_told g.H.Host m).heap name) 27 room) refl in
+    let same = c.in-Ok.ensures.idle (room-less m.pager.levels.parts (words_at (loom_told g.H.Host m).heap name) 27 room) refl in
     let it = entry-at g.H.Host m c.args.of s c.requires.sound c.requires.name (word-here g c) in
     gentle-from g.H.Host m c.clear_first.new.self c.bring.new.self same (c.in-Ok-bring.ensures.gentle told (c.in-Ok.ensures.leaf s (out-here g c) (leaf-here g c leaf)) (room-from g.H.Host m c.clear_first.new.self s name same (ap name_at it.name) room))
 
@@ -139,7 +139,7 @@ returns-in-Ok-bring-clause-idle g c = λ at is room.
     let m = c.args.self.now in
     let s = slice_index_or m.regs c.index.result 0 in
     let same = c.in-Ok.ensures.idle room refl in
-    let here : place_of ((core_of m.parts).entries s).state ≡ Some at = ap (λ (w : ℕ). place_of ((core_of m.parts).entries w).state) (word-here g c) ∙ is in
+    let here : place_of ((core_of m.pager.levels.parts).entries s).state ≡ Some at = ap (λ (w : ℕ). place_of ((core_of m.pager.levels.parts).entries w).state) (word-here g c) ∙ is in
     c.in-Ok-bring.ensures.idle at (place-from m c.clear_first.new.self s at same here) ∙ same
 
 pub returns-in-Ok-bring-clause-tested : goal.returns-in-Ok-bring-clause-tested
@@ -150,16 +150,16 @@ returns-in-Ok-bring-clause-tested g c = λ leaf.
     subst (λ (k : ℕ). IsTested c.bring.new.self k) (sym (ap name_at named.name)) (c.in-Ok-bring.ensures.tested (c.in-Ok.ensures.leaf s (out-here g c) (leaf-here g c leaf)))
 
 pub returns-in-Err-clause-damage : goal.returns-in-Err-clause-damage
-returns-in-Err-clause-damage g c = λ room. absurd (c.in-Err.ensures.sure (room-less c.args.self.now.parts (words_read c.clear_first.new.self) 27 room))
+returns-in-Err-clause-damage g c = λ room. absurd (c.in-Err.ensures.sure (room-less c.args.self.now.pager.levels.parts (words_read c.clear_first.new.self) 27 room))
 
 pub returns-in-Err-bring-clause-damage : goal.returns-in-Err-bring-clause-damage
 returns-in-Err-bring-clause-damage g c = λ room.
     let m = c.args.self.now in
     let s = slice_index_or m.regs c.index.result 0 in
-    let same = c.in-Ok.ensures.idle (room-less m.parts (words_read c.bring.new.self) 27 room) refl in
+    let same = c.in-Ok.ensures.idle (room-less m.pager.levels.parts (words_read c.bring.new.self) 27 room) refl in
     let is = word-is m.regs c.index.result c.args.of c.index.ensures.same c.index.ensures.within c.requires.sound.kept.many in
     let named = named-first g.H.Host m c.clear_first.new.self c.args.of s c.requires.sound c.in-Ok.ensures.sound c.requires.name is c.in-Ok.ensures.calm in
-    subst (λ (k : ℕ). IsDamageOf c.bring.new.self.disk.rest k c.in-Err-bring.f) (sym (ap name_at named.name))
+    subst (λ (k : ℕ). IsDamageOf c.bring.new.self.pager.levels.disk.rest k c.in-Err-bring.f) (sym (ap name_at named.name))
     (c.in-Err-bring.ensures.damage (room-same m c.clear_first.new.self (words_read c.bring.new.self) same room))
 
 pub returns-else-enough-clause-damage : goal.returns-else-enough-clause-damage
@@ -168,7 +168,7 @@ returns-else-enough-clause-damage g c = λ room.
     let s = slice_index_or m.regs c.index.result 0 in
     let is = word-is m.regs c.index.result c.args.of c.index.ensures.same c.index.ensures.within c.requires.sound.kept.many in
     let named = named-first g.H.Host m c.clear_first.new.self c.args.of s c.requires.sound c.in-Ok.ensures.sound c.requires.name is c.in-Ok.ensures.calm in
-    subst (λ (k : ℕ). IsDamageOf c.want.new.self.disk.rest k c.want.result) (sym (ap name_at named.name)) c.want.ensures.damage
+    subst (λ (k : ℕ). IsDamageOf c.want.new.self.pager.levels.disk.rest k c.want.result) (sym (ap name_at named.name)) c.want.ensures.damage
 
 pub returns-in-Ok-bring-clause-gone : goal.returns-in-Ok-bring-clause-gone
 returns-in-Ok-bring-clause-gone g c = λ told leaf.
@@ -186,7 +186,7 @@ returns-in-Ok-bring-clause-minds g c =
     let n = c.bring.new.self in
     let s = slice_index_or m.regs c.index.result 0 in
     let named = named-first g.H.Host m u c.args.of s c.requires.sound c.in-Ok.ensures.sound c.requires.name (word-here g c) c.in-Ok.ensures.calm in
-    let own = ((core_of u.parts).entries s).name in
+    let own = ((core_of u.pager.levels.parts).entries s).name in
     let name = name_at ((loom_told g.H.Host m).regs c.args.of) in
     minds-then g.H.Host m u n (λ k. ⊥) (IsBrought u n own) (IsBrought m n name) (λ k no. absurd no) (λ k is. (is.0 ∙ sym (ap name_at named.name), is.1 ∙ ap counted c.clear_first.ensures.brings)) c.in-Ok.ensures.minds c.in-Ok-bring.ensures.minds
 
@@ -197,11 +197,11 @@ pub returns-else-enough-clause-brings : goal.returns-else-enough-clause-brings
 returns-else-enough-clause-brings g c = brings-none c.args.self.now c.want.new.self _ (c.want.ensures.brings ∙ c.clear_first.ensures.brings)
 
 pub returns-in-Ok-bring-clause-brings : goal.returns-in-Ok-bring-clause-brings
-returns-in-Ok-bring-clause-brings g c = brings-where c.args.self.now c.bring.new.self _ _ (leaf-away g.H.Host c.args.self.now c.args.of (slice_index_or c.args.self.now.regs c.index.result 0) (HasRoom c.args.self.now.parts 0 27 → ⊥) c.requires.sound c.requires.name (word-is c.args.self.now.regs c.index.result c.args.of c.index.ensures.same c.index.ensures.within c.requires.sound.kept.many))
+returns-in-Ok-bring-clause-brings g c = brings-where c.args.self.now c.bring.new.self _ _ (leaf-away g.H.Host c.args.self.now c.args.of (slice_index_or c.args.self.now.regs c.index.result 0) (HasRoom c.args.self.now.pager.levels.parts 0 27 → ⊥) c.requires.sound c.requires.name (word-is c.args.self.now.regs c.index.result c.args.of c.index.ensures.same c.index.ensures.within c.requires.sound.kept.many))
     (brings-later c.args.self.now c.clear_first.new.self c.bring.new.self (slice_index_or c.args.self.now.regs c.index.result 0) c.clear_first.ensures.brings (λ room. c.in-Ok.ensures.idle room refl) c.bring.ensures.brings)
 
 pub returns-in-Err-bring-clause-brings : goal.returns-in-Err-bring-clause-brings
-returns-in-Err-bring-clause-brings g c = brings-where c.args.self.now c.bring.new.self _ _ (leaf-away g.H.Host c.args.self.now c.args.of (slice_index_or c.args.self.now.regs c.index.result 0) (HasRoom c.args.self.now.parts 0 27 → ⊥) c.requires.sound c.requires.name (word-is c.args.self.now.regs c.index.result c.args.of c.index.ensures.same c.index.ensures.within c.requires.sound.kept.many))
+returns-in-Err-bring-clause-brings g c = brings-where c.args.self.now c.bring.new.self _ _ (leaf-away g.H.Host c.args.self.now c.args.of (slice_index_or c.args.self.now.regs c.index.result 0) (HasRoom c.args.self.now.pager.levels.parts 0 27 → ⊥) c.requires.sound c.requires.name (word-is c.args.self.now.regs c.index.result c.args.of c.index.ensures.same c.index.ensures.within c.requires.sound.kept.many))
     (brings-later c.args.self.now c.clear_first.new.self c.bring.new.self (slice_index_or c.args.self.now.regs c.index.result 0) c.clear_first.ensures.brings (λ room. c.in-Ok.ensures.idle room refl) c.bring.ensures.brings)
 
 pub returns-in-Ok-bring-clause-due : goal.returns-in-Ok-bring-clause-due

@@ -22,17 +22,17 @@ use Rattle.loom_memory.proofs.memory.LoomMemory.look_up.Given as given
 
 pub returns-else-not-holds_below-clause-quiet : goal.returns-else-not-holds_below-clause-quiet
 unfolding loom_told
-returns-else-not-holds_below-clause-quiet g c = let m = c.args.self.now in calm-read g.H.Host m m.parts c.fetch.new.disk.host.now c.fetch.new.disk.rest c.requires.sound c.requires.sound.kept.parts (still-calm m.pinned (core_of m.parts)) c.in-Ok.ensures.read c.in-Ok.ensures.rest c.in-Ok.ensures.same (λ told. refl)
+returns-else-not-holds_below-clause-quiet g c = let m = c.args.self.now in calm-read g.H.Host m m.pager.levels.parts c.fetch.new.disk.host.now c.fetch.new.disk.rest c.requires.sound c.requires.sound.kept.parts (still-calm m.pager.pinned (core_of m.pager.levels.parts)) c.in-Ok.ensures.read c.in-Ok.ensures.rest c.in-Ok.ensures.same (λ told. refl)
 
 pub returns-else-not-holds_below-clause-sized : goal.returns-else-not-holds_below-clause-sized
 unfolding core_of
 returns-else-not-holds_below-clause-sized g c =
     let m = c.args.self.now in
-    let disk : Disk = disk_of g.H.Host m.disk.host.now m.disk.rest in
+    let disk : Disk = disk_of g.H.Host m.pager.levels.disk.host.now m.pager.levels.disk.rest in
     record {
       object = object_in (raw_of c.fetch.new.buf);
       sized = let all = unresolved-words (raw_of c.fetch.new.buf).body in let is = c.words_of.ensures.words in omega arith;
-      there = λ told. ap (λ (d : Disk). d c.args.name) c.in-Ok.ensures.same ∙ was-fetched c.fetch.new.buf (disk_of g.H.Host m.disk.host.now m.disk.rest c.args.name) c.in-Ok.held c.if-not-held.false (c.in-Ok.ensures.found told);
+      there = λ told. ap (λ (d : Disk). d c.args.name) c.in-Ok.ensures.same ∙ was-fetched c.fetch.new.buf (disk_of g.H.Host m.pager.levels.disk.host.now m.pager.levels.disk.rest c.args.name) c.in-Ok.held c.if-not-held.false (c.in-Ok.ensures.found told);
     }
 
 pub returns-else-not-holds_below-clause-record : goal.returns-else-not-holds_below-clause-record
@@ -43,37 +43,37 @@ returns-else-not-holds_below-clause-record g c =
       record_there = there.0;
       named = there.1;
       sized = let all = unresolved-words (raw_of c.fetch.new.buf).body in let is = c.words_of.ensures.words in omega arith;
-      there = λ told. ap (λ (d : Disk). d c.args.name) c.in-Ok.ensures.same ∙ was-fetched c.fetch.new.buf (disk_of g.H.Host m.disk.host.now m.disk.rest c.args.name) c.in-Ok.held c.if-not-held.false (c.in-Ok.ensures.found told);
+      there = λ told. ap (λ (d : Disk). d c.args.name) c.in-Ok.ensures.same ∙ was-fetched c.fetch.new.buf (disk_of g.H.Host m.pager.levels.disk.host.now m.pager.levels.disk.rest c.args.name) c.in-Ok.held c.if-not-held.false (c.in-Ok.ensures.found told);
     }
 
 pub returns-else-not-holds_below-clause-outside : goal.returns-else-not-holds_below-clause-outside
 unfolding loom_outside
-returns-else-not-holds_below-clause-outside g c = work-outside g.H.Host c.args.self.now.disk.host.now c.fetch.new.disk.host.now (read-only g.H.Host c.args.self.now.disk.host.now c.fetch.new.disk.host.now c.in-Ok.ensures.read)
+returns-else-not-holds_below-clause-outside g c = work-outside g.H.Host c.args.self.now.pager.levels.disk.host.now c.fetch.new.disk.host.now (read-only g.H.Host c.args.self.now.pager.levels.disk.host.now c.fetch.new.disk.host.now c.in-Ok.ensures.read)
 
 none-there : (g : given.Over) (c : goal.After-wrong g) → IsTrue (loom_told g.H.Host c.args.self.now).tells → ⊥
 unfolding loom_told
-none-there g c = λ told. c.requires.there told (not-fetched c.fetch.new.buf (disk_of g.H.Host c.args.self.now.disk.host.now c.args.self.now.disk.rest c.args.name) c.in-Ok.held c.if-not-held.true (c.in-Ok.ensures.found told))
+none-there g c = λ told. c.requires.there told (not-fetched c.fetch.new.buf (disk_of g.H.Host c.args.self.now.pager.levels.disk.host.now c.args.self.now.pager.levels.disk.rest c.args.name) c.in-Ok.held c.if-not-held.true (c.in-Ok.ensures.found told))
 
 pub returns-then-not-held-clause-err : goal.returns-then-not-held-clause-err
 unfolding loom_told
 returns-then-not-held-clause-err g c = λ a silent none.
     let m = c.args.self.now in
     c.wrong.ensures.err (loom_told g.H.Host m) a
-    (calm-read g.H.Host m m.parts c.fetch.new.disk.host.now c.fetch.new.disk.rest c.requires.sound c.requires.sound.kept.parts (still-calm m.pinned (core_of m.parts)) c.in-Ok.ensures.read c.in-Ok.ensures.rest c.in-Ok.ensures.same (λ told. refl))
+    (calm-read g.H.Host m m.pager.levels.parts c.fetch.new.disk.host.now c.fetch.new.disk.rest c.requires.sound c.requires.sound.kept.parts (still-calm m.pager.pinned (core_of m.pager.levels.parts)) c.in-Ok.ensures.read c.in-Ok.ensures.rest c.in-Ok.ensures.same (λ told. refl))
     c.requires.ready silent none (none-there g c)
 
 pub returns-then-not-held-clause-outside : goal.returns-then-not-held-clause-outside
 unfolding loom_outside
-returns-then-not-held-clause-outside g c = c.wrong.ensures.outside ∙ work-outside g.H.Host c.args.self.now.disk.host.now c.fetch.new.disk.host.now (read-only g.H.Host c.args.self.now.disk.host.now c.fetch.new.disk.host.now c.in-Ok.ensures.read)
+returns-then-not-held-clause-outside g c = c.wrong.ensures.outside ∙ work-outside g.H.Host c.args.self.now.pager.levels.disk.host.now c.fetch.new.disk.host.now (read-only g.H.Host c.args.self.now.pager.levels.disk.host.now c.fetch.new.disk.host.now c.in-Ok.ensures.read)
 
 -- where the heap is told, each name in the record has its object
 none-above : (g : given.Over) (c : goal.After-wrong-then-not-holds_below g) → IsTrue (loom_told g.H.Host c.args.self.now).tells → ⊥
 unfolding loom_told
 none-above g c = λ told.
     let m = c.args.self.now in
-    let disk : Disk = disk_of g.H.Host m.disk.host.now m.disk.rest in
+    let disk : Disk = disk_of g.H.Host m.pager.levels.disk.host.now m.pager.levels.disk.rest in
     let there = was-fetched c.fetch.new.buf (disk c.args.name) c.in-Ok.held c.if-not-held.false (c.in-Ok.ensures.found told) in
-    let below = own-below (g.H.Host.tells Work) (held (core_of m.parts) disk) m.ledger.next (loom_told g.H.Host m).regs (loom_told g.H.Host m).slots c.args.name (object_in (raw_of c.fetch.new.buf)) told (c.requires.ready.whole told) (c.requires.own told ∙ there) in
+    let below = own-below (g.H.Host.tells Work) (held (core_of m.pager.levels.parts) disk) m.ledger.next (loom_told g.H.Host m).regs (loom_told g.H.Host m).slots c.args.name (object_in (raw_of c.fetch.new.buf)) told (c.requires.ready.whole told) (c.requires.own told ∙ there) in
     let yes = c.holds_below.ensures.1 below in
     let no = c.if-not-holds_below.true in
     absurd (cc)
@@ -83,12 +83,12 @@ unfolding loom_told
 returns-then-not-holds_below-clause-err g c = λ a silent none.
     let m = c.args.self.now in
     c.wrong-then-not-holds_below.ensures.err (loom_told g.H.Host m) a
-    (calm-read g.H.Host m m.parts c.fetch.new.disk.host.now c.fetch.new.disk.rest c.requires.sound c.requires.sound.kept.parts (still-calm m.pinned (core_of m.parts)) c.in-Ok.ensures.read c.in-Ok.ensures.rest c.in-Ok.ensures.same (λ told. refl))
+    (calm-read g.H.Host m m.pager.levels.parts c.fetch.new.disk.host.now c.fetch.new.disk.rest c.requires.sound c.requires.sound.kept.parts (still-calm m.pager.pinned (core_of m.pager.levels.parts)) c.in-Ok.ensures.read c.in-Ok.ensures.rest c.in-Ok.ensures.same (λ told. refl))
     c.requires.ready silent none (none-above g c)
 
 pub returns-then-not-holds_below-clause-outside : goal.returns-then-not-holds_below-clause-outside
 unfolding loom_outside
-returns-then-not-holds_below-clause-outside g c = c.wrong-then-not-holds_below.ensures.outside ∙ work-outside g.H.Host c.args.self.now.disk.host.now c.fetch.new.disk.host.now (read-only g.H.Host c.args.self.now.disk.host.now c.fetch.new.disk.host.now c.in-Ok.ensures.read)
+returns-then-not-holds_below-clause-outside g c = c.wrong-then-not-holds_below.ensures.outside ∙ work-outside g.H.Host c.args.self.now.pager.levels.disk.host.now c.fetch.new.disk.host.now (read-only g.H.Host c.args.self.now.pager.levels.disk.host.now c.fetch.new.disk.host.now c.in-Ok.ensures.read)
 
 pub returns-else-not-holds_below-clause-tested : goal.returns-else-not-holds_below-clause-tested
 returns-else-not-holds_below-clause-tested g c =
@@ -100,9 +100,9 @@ returns-else-not-holds_below-clause-sound g c =
     let m = c.args.self.now in
     record {
       kept = c.requires.sound.kept;
-      over = read-over g.H.Host m.disk.host.now c.fetch.new.disk.host.now m.disk.rest c.fetch.new.disk.rest (core_of m.parts) m.ledger c.requires.sound.over c.in-Ok.ensures.stands c.in-Ok.ensures.rest c.in-Ok.ensures.same;
+      over = read-over g.H.Host m.pager.levels.disk.host.now c.fetch.new.disk.host.now m.pager.levels.disk.rest c.fetch.new.disk.rest (core_of m.pager.levels.parts) m.ledger c.requires.sound.over c.in-Ok.ensures.stands c.in-Ok.ensures.rest c.in-Ok.ensures.same;
       soon = c.requires.sound.soon;
-      exact = exact-read g.H.Host m.parts m.disk.host.now c.fetch.new.disk.host.now m.disk.rest c.fetch.new.disk.rest m.ledger.next c.requires.sound.exact c.in-Ok.ensures.rest c.in-Ok.ensures.read;
+      exact = exact-read g.H.Host m.pager.levels.parts m.pager.levels.disk.host.now c.fetch.new.disk.host.now m.pager.levels.disk.rest c.fetch.new.disk.rest m.ledger.next c.requires.sound.exact c.in-Ok.ensures.rest c.in-Ok.ensures.read;
       thin = thin-quiet g.H.Host c.args.self.now _ c.requires.sound.thin (λ on. on) (returns-else-not-holds_below-clause-quiet g c);
     }
 
@@ -110,28 +110,28 @@ pub returns-in-Err-clause-err : goal.returns-in-Err-clause-err
 unfolding loom_told
 returns-in-Err-clause-err g c = λ a silent none.
     let m = c.args.self.now in
-    fault-after g.H.Host m (loom_told g.H.Host c.refuse.new.self) (core_of m.parts) c.fetch.new.disk.host.now c.fetch.new.disk.rest a c.in-Err.f c.refusal_of-f.result c.refuse.result
-    (calm-read g.H.Host m m.parts c.fetch.new.disk.host.now c.fetch.new.disk.rest c.requires.sound c.requires.sound.kept.parts (still-calm m.pinned (core_of m.parts)) c.in-Err.ensures.read c.in-Err.ensures.rest c.in-Err.ensures.same (λ told. refl))
+    fault-after g.H.Host m (loom_told g.H.Host c.refuse.new.self) (core_of m.pager.levels.parts) c.fetch.new.disk.host.now c.fetch.new.disk.rest a c.in-Err.f c.refusal_of-f.result c.refuse.result
+    (calm-read g.H.Host m m.pager.levels.parts c.fetch.new.disk.host.now c.fetch.new.disk.rest c.requires.sound c.requires.sound.kept.parts (still-calm m.pager.pinned (core_of m.pager.levels.parts)) c.in-Err.ensures.read c.in-Err.ensures.rest c.in-Err.ensures.same (λ told. refl))
     c.refuse.ensures.told c.refuse.ensures.result c.requires.ready silent none c.refuse.ensures.later c.in-Err.ensures.fault c.refusal_of-f.ensures
 
 pub returns-in-Err-clause-outside : goal.returns-in-Err-clause-outside
 unfolding loom_outside
-returns-in-Err-clause-outside g c = c.refuse.ensures.outside ∙ work-outside g.H.Host c.args.self.now.disk.host.now c.fetch.new.disk.host.now (read-only g.H.Host c.args.self.now.disk.host.now c.fetch.new.disk.host.now c.in-Err.ensures.read)
+returns-in-Err-clause-outside g c = c.refuse.ensures.outside ∙ work-outside g.H.Host c.args.self.now.pager.levels.disk.host.now c.fetch.new.disk.host.now (read-only g.H.Host c.args.self.now.pager.levels.disk.host.now c.fetch.new.disk.host.now c.in-Err.ensures.read)
 
 pub returns-else-not-holds_below-clause-gentle : goal.returns-else-not-holds_below-clause-gentle
 unfolding loom_told
-returns-else-not-holds_below-clause-gentle g c = record { remains = remains-refl (core_of c.args.self.now.parts); read = c.in-Ok.ensures.read; cache = refl }
+returns-else-not-holds_below-clause-gentle g c = record { remains = remains-refl (core_of c.args.self.now.pager.levels.parts); read = c.in-Ok.ensures.read; cache = refl }
 
 pub returns-then-not-held-clause-damage : goal.returns-then-not-held-clause-damage
-returns-then-not-held-clause-damage g c = nowhere-damage c.wrong.new.self.disk.rest c.args.name c.wrong.result c.wrong.ensures.is
+returns-then-not-held-clause-damage g c = nowhere-damage c.wrong.new.self.pager.levels.disk.rest c.args.name c.wrong.result c.wrong.ensures.is
 
 pub returns-then-not-holds_below-clause-damage : goal.returns-then-not-holds_below-clause-damage
-returns-then-not-holds_below-clause-damage g c = nowhere-damage c.wrong-then-not-holds_below.new.self.disk.rest c.args.name c.wrong-then-not-holds_below.result c.wrong-then-not-holds_below.ensures.is
+returns-then-not-holds_below-clause-damage g c = nowhere-damage c.wrong-then-not-holds_below.new.self.pager.levels.disk.rest c.args.name c.wrong-then-not-holds_below.result c.wrong-then-not-holds_below.ensures.is
 
 pub returns-in-Err-clause-damage : goal.returns-in-Err-clause-damage
 returns-in-Err-clause-damage g c =
     let m = c.args.self.now in
-    refusal-damage (g.H.Host.tells Work) (g.H.Host.faults m.disk.host.now Work) (g.H.Host.faults c.fetch.new.disk.host.now Work) m.disk.rest c.refuse.new.self.disk.rest c.args.name c.in-Err.f c.refusal_of-f.result c.refuse.result c.in-Err.ensures.fault c.in-Err.ensures.damage (c.refuse.ensures.rest ∙ c.in-Err.ensures.rest) c.refusal_of-f.ensures c.refuse.ensures.result
+    refusal-damage (g.H.Host.tells Work) (g.H.Host.faults m.pager.levels.disk.host.now Work) (g.H.Host.faults c.fetch.new.disk.host.now Work) m.pager.levels.disk.rest c.refuse.new.self.pager.levels.disk.rest c.args.name c.in-Err.f c.refusal_of-f.result c.refuse.result c.in-Err.ensures.fault c.in-Err.ensures.damage (c.refuse.ensures.rest ∙ c.in-Err.ensures.rest) c.refusal_of-f.ensures c.refuse.ensures.result
 
 pub returns-then-not-held-clause-brings : goal.returns-then-not-held-clause-brings
 unfolding fetched

@@ -38,7 +38,7 @@ full_new-requires-in-Ok-clause-ready g c = quiet-ready (loom_told g.H.Host c.arg
 pub full_new-requires-in-Ok-clause-unfit : goal.full_new-requires-in-Ok-clause-unfit
 full_new-requires-in-Ok-clause-unfit g c = λ need is.
     let n = c.clear_new.new.self in
-    unfit-new n.parts n.regs n.pinned n.ledger c.args.name c.words_new-words.result need c.in-Ok.ensures.sound.kept (c.in-Ok.ensures.short c.if-enough.false) c.entries_are_counted.ensures c.chunks_never_overlap-in-Ok.ensures is
+    unfit-new n.pager.levels.parts n.regs n.pager.pinned n.ledger c.args.name c.words_new-words.result need c.in-Ok.ensures.sound.kept (c.in-Ok.ensures.short c.if-enough.false) c.entries_are_counted.ensures c.chunks_never_overlap-in-Ok.ensures is
 
 pub returns-else-enough-clause-err : goal.returns-else-enough-clause-err
 returns-else-enough-clause-err g c = after-quiet-as (loom_told g.H.Host c.args.self.now) (loom_told g.H.Host c.clear_new.new.self) (loom_told g.H.Host c.full_new-in-Ok.new.self) c.args.to c.args.class (making_of c.args.kind c.args.len c.args.header) c.full_new-in-Ok.result c.in-Ok.ensures.quiet c.requires.ready c.full_new-in-Ok.ensures.other
@@ -53,7 +53,7 @@ returns-then-enough-clause-fetches g c = c.put_object.ensures.fetches ∙ c.clea
 pub returns-then-enough-clause-resting : goal.returns-then-enough-clause-resting
 returns-then-enough-clause-resting g c =
     made-rest c.put_object.result c.args.self.now c.clear_new.new.self c.put_object.new.self
-    (λ room. c.in-Ok.ensures.resting (subst (λ (k : ℕ). HasRoom c.args.self.now.parts k 27) (sym c.words_new-words.ensures.words) room)) c.put_object.ensures.resting
+    (λ room. c.in-Ok.ensures.resting (subst (λ (k : ℕ). HasRoom c.args.self.now.pager.levels.parts k 27) (sym c.words_new-words.ensures.words) room)) c.put_object.ensures.resting
 
 pub returns-then-words-self-clause-full : goal.returns-then-words-self-clause-full
 returns-then-words-self-clause-full g c =
@@ -61,7 +61,7 @@ returns-then-words-self-clause-full g c =
     let held = kept.1 in
     let room = ap (λ d. disk_room d.rest) kept.0 in
     let low = c.requires.held in
-    core-any c.full_new.result (c.full_new.new.self.ledger.held < disk_room c.full_new.new.self.disk.rest) (omega (arith, held, room, low))
+    core-any c.full_new.result (c.full_new.new.self.ledger.held < disk_room c.full_new.new.self.pager.levels.disk.rest) (omega (arith, held, room, low))
 
 pub returns-else-enough-clause-full : goal.returns-else-enough-clause-full
 returns-else-enough-clause-full g c =
@@ -69,18 +69,18 @@ returns-else-enough-clause-full g c =
     let held = kept.1 ∙ ap (λ (k : Ledger). k.held) c.in-Ok.ensures.ledger in
     let room = ap (λ d. disk_room d.rest) kept.0 ∙ c.in-Ok.ensures.limit in
     let low = c.requires.held in
-    core-any c.full_new-in-Ok.result (c.full_new-in-Ok.new.self.ledger.held < disk_room c.full_new-in-Ok.new.self.disk.rest) (omega (arith, held, room, low))
+    core-any c.full_new-in-Ok.result (c.full_new-in-Ok.new.self.ledger.held < disk_room c.full_new-in-Ok.new.self.pager.levels.disk.rest) (omega (arith, held, room, low))
 
 pub returns-then-enough-clause-full : goal.returns-then-enough-clause-full
-returns-then-enough-clause-full g c = lost-core c.put_object.result (c.put_object.new.self.ledger.held < disk_room c.put_object.new.self.disk.rest) c.put_object.ensures.fault
+returns-then-enough-clause-full g c = lost-core c.put_object.result (c.put_object.new.self.ledger.held < disk_room c.put_object.new.self.pager.levels.disk.rest) c.put_object.ensures.fault
 
 pub returns-in-Err-clause-full : goal.returns-in-Err-clause-full
-returns-in-Err-clause-full g c = core-lost c.in-Err.f (c.clear_new.new.self.ledger.held < disk_room c.clear_new.new.self.disk.rest) c.in-Err.ensures.fault
+returns-in-Err-clause-full g c = core-lost c.in-Err.f (c.clear_new.new.self.ledger.held < disk_room c.clear_new.new.self.pager.levels.disk.rest) c.in-Err.ensures.fault
 
 pub returns-then-enough-clause-cached : goal.returns-then-enough-clause-cached
 returns-then-enough-clause-cached g c =
     room-keeps c.put_object.result g.H.Host c.args.self.now c.clear_new.new.self c.put_object.new.self
-    (λ room. c.in-Ok.ensures.cached (subst (λ (k : ℕ). HasRoom c.args.self.now.parts k 27) (sym c.words_new-words.ensures.words) room)) c.put_object.ensures.cached
+    (λ room. c.in-Ok.ensures.cached (subst (λ (k : ℕ). HasRoom c.args.self.now.pager.levels.parts k 27) (sym c.words_new-words.ensures.words) room)) c.put_object.ensures.cached
 
 pub returns-then-words-self-clause-spared : goal.returns-then-words-self-clause-spared
 returns-then-words-self-clause-spared g c = λ room. c.full_new.ensures.spared
@@ -88,16 +88,16 @@ returns-then-words-self-clause-spared g c = λ room. c.full_new.ensures.spared
 pub returns-then-enough-clause-spared : goal.returns-then-enough-clause-spared
 returns-then-enough-clause-spared g c =
     spared-then c.put_object.result g.H.Host c.args.self.now c.clear_new.new.self c.put_object.new.self
-    (λ room. c.in-Ok.ensures.resting (subst (λ (k : ℕ). HasRoom c.args.self.now.parts k 27) (sym c.words_new-words.ensures.words) room))
-    (λ room. c.in-Ok.ensures.cached (subst (λ (k : ℕ). HasRoom c.args.self.now.parts k 27) (sym c.words_new-words.ensures.words) room)) c.put_object.ensures.spared
+    (λ room. c.in-Ok.ensures.resting (subst (λ (k : ℕ). HasRoom c.args.self.now.pager.levels.parts k 27) (sym c.words_new-words.ensures.words) room))
+    (λ room. c.in-Ok.ensures.cached (subst (λ (k : ℕ). HasRoom c.args.self.now.pager.levels.parts k 27) (sym c.words_new-words.ensures.words) room)) c.put_object.ensures.spared
 
 pub returns-else-enough-clause-spared : goal.returns-else-enough-clause-spared
 returns-else-enough-clause-spared g c = λ room.
-    let has = subst (λ (k : ℕ). HasRoom c.args.self.now.parts k 27) (sym c.words_new-words.ensures.words) room in
+    let has = subst (λ (k : ℕ). HasRoom c.args.self.now.pager.levels.parts k 27) (sym c.words_new-words.ensures.words) room in
     spared-trans g.H.Host c.args.self.now c.clear_new.new.self c.full_new-in-Ok.new.self (rest-spared g.H.Host c.args.self.now c.clear_new.new.self (c.in-Ok.ensures.resting has) (c.in-Ok.ensures.cached has)) c.full_new-in-Ok.ensures.spared
 
 pub returns-in-Err-clause-spared : goal.returns-in-Err-clause-spared
-returns-in-Err-clause-spared g c = λ room. c.in-Err.ensures.spared (subst (λ (k : ℕ). HasRoom c.args.self.now.parts k 27) (sym c.words_new-words.ensures.words) room)
+returns-in-Err-clause-spared g c = λ room. c.in-Err.ensures.spared (subst (λ (k : ℕ). HasRoom c.args.self.now.pager.levels.parts k 27) (sym c.words_new-words.ensures.words) room)
 
 pub returns-then-words-self-clause-sure : goal.returns-then-words-self-clause-sure
 returns-then-words-self-clause-sure g c = λ told room.
@@ -112,10 +112,10 @@ pub returns-then-enough-clause-sure : goal.returns-then-enough-clause-sure
 returns-then-enough-clause-sure g c = sure-then _ _ c.put_object.result c.put_object.ensures.sure
 
 pub returns-else-enough-clause-sure : goal.returns-else-enough-clause-sure
-returns-else-enough-clause-sure g c = λ told room. let no = c.if-enough.false in let yes = c.in-Ok.ensures.enough (subst (λ (k : ℕ). HasRoom c.args.self.now.parts k 27) (sym c.words_new-words.ensures.words) room) in cc
+returns-else-enough-clause-sure g c = λ told room. let no = c.if-enough.false in let yes = c.in-Ok.ensures.enough (subst (λ (k : ℕ). HasRoom c.args.self.now.pager.levels.parts k 27) (sym c.words_new-words.ensures.words) room) in cc
 
 pub returns-in-Err-clause-sure : goal.returns-in-Err-clause-sure
-returns-in-Err-clause-sure g c = λ told room. let is = c.in-Err.ensures.sure (subst (λ (k : ℕ). HasRoom c.args.self.now.parts k 27) (sym c.words_new-words.ensures.words) room) in cc
+returns-in-Err-clause-sure g c = λ told room. let is = c.in-Err.ensures.sure (subst (λ (k : ℕ). HasRoom c.args.self.now.pager.levels.parts k 27) (sym c.words_new-words.ensures.words) room) in cc
 
 pub returns-then-enough-clause-minds : goal.returns-then-enough-clause-minds
 returns-then-enough-clause-minds g c = minds-after c.put_object.result g.H.Host c.args.self.now c.clear_new.new.self c.put_object.new.self (λ k. (loom_told g.H.Host c.put_object.new.self).regs c.args.to ≡ Ref k) c.in-Ok.ensures.minds c.put_object.ensures.minds

@@ -22,7 +22,7 @@ pub nameless-requires-in-None-clause-cause : goal.nameless-requires-in-None-clau
 unfolding loom_told
 nameless-requires-in-None-clause-cause g c = λ told.
     let m = c.args.self.now in
-    let long = next-long g.H.Host m.parts m.disk.host.now m.disk.rest m.ledger.next c.requires.fit.sound.exact told in
+    let long = next-long g.H.Host m.pager.levels.parts m.pager.levels.disk.host.now m.pager.levels.disk.rest m.ledger.next c.requires.fit.sound.exact told in
     let is : IsName m.ledger.next = record { even = c.requires.fit.sound.over.based.even; above = omega (arith, long) } in
     let both = c.in-None.ensures.name.1 is in cc
 
@@ -57,6 +57,6 @@ returns-then-next-ge-LAST_NAME-clause-sure g c = λ all. let same = told-next g.
 pub returns-in-None-clause-sure : goal.returns-in-None-clause-sure
 returns-in-None-clause-sure g c = λ all.
     let m = c.args.self.now in
-    let long = next-long g.H.Host m.parts m.disk.host.now m.disk.rest m.ledger.next c.requires.fit.sound.exact all.told in
+    let long = next-long g.H.Host m.pager.levels.parts m.pager.levels.disk.host.now m.pager.levels.disk.rest m.ledger.next c.requires.fit.sound.exact all.told in
     let is : IsName m.ledger.next = record { even = c.requires.fit.sound.over.based.even; above = omega (arith, long) } in
     let both = c.in-None.ensures.name.1 is in cc

@@ -7,7 +7,7 @@ use Rattle.loom_memory.specs.New.{making_of}
 use Rattle.loom_memory.proofs.AccessLaws.{refused-is}
 use Rattle.loom_memory.proofs.AddLaws.{making-words, next-low}
 use Rattle.loom_memory.proofs.MadeLaws.{asked-last, core-none, made-early, made-sparing}
-use Rattle.loom_memory.proofs.MakingLaws.{made-last, made-now, thinned-ready}
+use Rattle.loom_memory.proofs.MakingLaws.{made-last, made-now, made-ref, thinned-ready}
 use Rattle.loom_memory.specs.Own.{IsAskedLast}
 use Rattle.loom_memory.proofs.SparedLaws.{spared-making, sure-making}
 use Rattle.long_names.specs.declared.value.Value.TheVariants.{Ref}
@@ -53,7 +53,7 @@ returns-in-Ok-clause-own g c =
     let asked = c.in-Ok.ensures in
     let made = c.make_here.ensures in
     made-sparing c.make_here.result g.H.Host c.args.self.now c.ask.new.self c.make_here.new.self c.args.to c.args.class (making_of c.args.kind c.args.len c.args.header) _ (making-words c.args.kind c.args.len c.args.header)
-    c.requires.fit.sound asked.sound made.sound (λ h has. asked.roomy h (subst (λ (k : ℕ). HasRoom c.args.self.now.parts k 27) (sym c.words_new.ensures.words) has)) (λ h has. asked.early h (subst (λ (k : ℕ). HasRoom c.args.self.now.parts k 27) (sym c.words_new.ensures.words) has)) asked.next asked.room asked.bodies made.made made.resting made.cached
+    c.requires.fit.sound asked.sound made.sound (λ h has. asked.roomy h (subst (λ (k : ℕ). HasRoom c.args.self.now.pager.levels.parts k 27) (sym c.words_new.ensures.words) has)) (λ h has. asked.early h (subst (λ (k : ℕ). HasRoom c.args.self.now.pager.levels.parts k 27) (sym c.words_new.ensures.words) has)) asked.next asked.room asked.bodies made.made made.resting made.cached
 
 pub returns-in-Ok-clause-full : goal.returns-in-Ok-clause-full
 unfolding loom_told
@@ -63,19 +63,22 @@ pub returns-in-Err-clause-full : goal.returns-in-Err-clause-full
 returns-in-Err-clause-full g c = core-none c.in-Err.f (IsAskedLast g.H.Host c.args.self.now c.ask.new.self) c.in-Err.ensures.full
 
 pub returns-in-Ok-clause-spared : goal.returns-in-Ok-clause-spared
-returns-in-Ok-clause-spared g c = spared-making c.make_here.result g.H.Host c.args.self.now c.ask.new.self c.make_here.new.self (making_of c.args.kind c.args.len c.args.header) _ (making-words c.args.kind c.args.len c.args.header) (λ h has. c.in-Ok.ensures.roomy h (subst (λ (k : ℕ). HasRoom c.args.self.now.parts k 27) (sym c.words_new.ensures.words) has)) (λ h has. c.in-Ok.ensures.early h (subst (λ (k : ℕ). HasRoom c.args.self.now.parts k 27) (sym c.words_new.ensures.words) has)) c.make_here.ensures.spared
+returns-in-Ok-clause-spared g c = spared-making c.make_here.result g.H.Host c.args.self.now c.ask.new.self c.make_here.new.self (making_of c.args.kind c.args.len c.args.header) _ (making-words c.args.kind c.args.len c.args.header) (λ h has. c.in-Ok.ensures.roomy h (subst (λ (k : ℕ). HasRoom c.args.self.now.pager.levels.parts k 27) (sym c.words_new.ensures.words) has)) (λ h has. c.in-Ok.ensures.early h (subst (λ (k : ℕ). HasRoom c.args.self.now.pager.levels.parts k 27) (sym c.words_new.ensures.words) has)) c.make_here.ensures.spared
 
 pub returns-in-Err-clause-spared : goal.returns-in-Err-clause-spared
-returns-in-Err-clause-spared g c = λ space. c.in-Err.ensures.spared space.0 (subst (λ (k : ℕ). HasRoom c.args.self.now.parts k 27) (sym (c.words_new.ensures.words ∙ making-words c.args.kind c.args.len c.args.header)) space.1)
+returns-in-Err-clause-spared g c = λ space. c.in-Err.ensures.spared space.0 (subst (λ (k : ℕ). HasRoom c.args.self.now.pager.levels.parts k 27) (sym (c.words_new.ensures.words ∙ making-words c.args.kind c.args.len c.args.header)) space.1)
 
 pub returns-in-Ok-clause-sure : goal.returns-in-Ok-clause-sure
-returns-in-Ok-clause-sure g c = sure-making c.make_here.result g.H.Host c.args.self.now c.ask.new.self (making_of c.args.kind c.args.len c.args.header) _ (making-words c.args.kind c.args.len c.args.header) (λ h has. c.in-Ok.ensures.roomy h (subst (λ (k : ℕ). HasRoom c.args.self.now.parts k 27) (sym c.words_new.ensures.words) has)) c.make_here.ensures.sure
+returns-in-Ok-clause-sure g c = sure-making c.make_here.result g.H.Host c.args.self.now c.ask.new.self (making_of c.args.kind c.args.len c.args.header) _ (making-words c.args.kind c.args.len c.args.header) (λ h has. c.in-Ok.ensures.roomy h (subst (λ (k : ℕ). HasRoom c.args.self.now.pager.levels.parts k 27) (sym c.words_new.ensures.words) has)) c.make_here.ensures.sure
 
 pub returns-in-Err-clause-sure : goal.returns-in-Err-clause-sure
-returns-in-Err-clause-sure g c = λ all. c.in-Err.ensures.sure all.room (subst (λ (k : ℕ). HasRoom c.args.self.now.parts k 27) (sym (c.words_new.ensures.words ∙ making-words c.args.kind c.args.len c.args.header)) all.space)
+returns-in-Err-clause-sure g c = λ all. c.in-Err.ensures.sure all.room (subst (λ (k : ℕ). HasRoom c.args.self.now.pager.levels.parts k 27) (sym (c.words_new.ensures.words ∙ making-words c.args.kind c.args.len c.args.header)) all.space)
 
 pub returns-in-Ok-clause-minds : goal.returns-in-Ok-clause-minds
 returns-in-Ok-clause-minds g c = minds-told c.make_here.result (IsTrue (g.H.Host.tells Work)) g.H.Host c.args.self.now c.ask.new.self c.make_here.new.self (λ k. (loom_told g.H.Host c.make_here.new.self).regs c.args.to ≡ Ref k) c.in-Ok.ensures.minds c.make_here.ensures.minds
 
 pub returns-in-Ok-clause-gone : goal.returns-in-Ok-clause-gone
 returns-in-Ok-clause-gone g c = made-gone c.make_here.result g.H.Host c.args.self.now c.ask.new.self c.make_here.new.self c.args.to c.args.class (making_of c.args.kind c.args.len c.args.header) _ (c.words_new.ensures.words ∙ making-words c.args.kind c.args.len c.args.header) c.in-Ok.ensures.thinned c.in-Ok.ensures.gone c.in-Ok.ensures.due c.make_here.ensures.made c.make_here.ensures.due
+
+pub returns-in-Ok-clause-name : goal.returns-in-Ok-clause-name
+returns-in-Ok-clause-name g c = made-ref c.make_here.result (loom_told g.H.Host c.ask.new.self) (loom_told g.H.Host c.make_here.new.self) c.args.to c.args.class (making_of c.args.kind c.args.len c.args.header) c.make_here.ensures.made

@@ -20,28 +20,28 @@ use Rattle.loom_memory.proofs.OneLaws.{brings-then}
 use Rattle.loom_memory.proofs.memory.LoomMemory.mark.Goals as goal
 use Rattle.loom_memory.proofs.memory.LoomMemory.mark.Given as given
 
-name-of : (g : given.Over) (c : goal.After-note_mark g) → (loom_told g.H.Host c.load.new.self).regs c.args.r ≡ Ref ((core_of c.load.new.self.parts).entries c.in-Ok.s.0).name
+name-of : (g : given.Over) (c : goal.After-note_mark g) → (loom_told g.H.Host c.load.new.self).regs c.args.r ≡ Ref ((core_of c.load.new.self.pager.levels.parts).entries c.in-Ok.s.0).name
 unfolding loom_told
 name-of g c =
     let n = c.load.new.self in
-    ap (meant (core_of n.parts).entries [] 0) (sym c.in-Ok.ensures.word)
-    ∙ meant-short (core_of n.parts).entries [] 0 c.in-Ok.s.0 (c.in-Ok.ensures.sound.kept.parts.core.short c.in-Ok.s.0 (placed-used ((core_of n.parts).entries c.in-Ok.s.0).state c.in-Ok.ensures.loaded.at c.in-Ok.ensures.loaded.place))
+    ap (meant (core_of n.pager.levels.parts).entries [] 0) (sym c.in-Ok.ensures.word)
+    ∙ meant-short (core_of n.pager.levels.parts).entries [] 0 c.in-Ok.s.0 (c.in-Ok.ensures.sound.kept.parts.core.short c.in-Ok.s.0 (placed-used ((core_of n.pager.levels.parts).entries c.in-Ok.s.0).state c.in-Ok.ensures.loaded.at c.in-Ok.ensures.loaded.place))
 
 pub note_mark-requires-clause-there : goal.note_mark-requires-clause-there
 note_mark-requires-clause-there g c = (c.in-Ok.ensures.loaded.at, c.in-Ok.ensures.loaded.place)
 
 pub returns-in-Ok-clause-access : goal.returns-in-Ok-clause-access
 returns-in-Ok-clause-access g c =
-    mark-freed (loom_told g.H.Host c.args.self.now) (loom_told g.H.Host c.load.new.self) (loom_told g.H.Host c.note_mark.new.self) c.args.r ((core_of c.load.new.self.parts).entries c.in-Ok.s.0).name c.in-Ok.ensures.thinned c.note_mark.ensures.marked (name-of g c)
+    mark-freed (loom_told g.H.Host c.args.self.now) (loom_told g.H.Host c.load.new.self) (loom_told g.H.Host c.note_mark.new.self) c.args.r ((core_of c.load.new.self.pager.levels.parts).entries c.in-Ok.s.0).name c.in-Ok.ensures.thinned c.note_mark.ensures.marked (name-of g c)
     (c.in-Ok.ensures.core (Mark c.args.r) refl refl)
 
 pub returns-in-Ok-clause-marked : goal.returns-in-Ok-clause-marked
-returns-in-Ok-clause-marked g c = marked-name (loom_told g.H.Host c.args.self.now) (loom_told g.H.Host c.load.new.self) (loom_told g.H.Host c.note_mark.new.self) c.args.r ((core_of c.load.new.self.parts).entries c.in-Ok.s.0).name c.in-Ok.ensures.thinned c.note_mark.ensures.marked (name-of g c)
+returns-in-Ok-clause-marked g c = marked-name (loom_told g.H.Host c.args.self.now) (loom_told g.H.Host c.load.new.self) (loom_told g.H.Host c.note_mark.new.self) c.args.r ((core_of c.load.new.self.pager.levels.parts).entries c.in-Ok.s.0).name c.in-Ok.ensures.thinned c.note_mark.ensures.marked (name-of g c)
 
 pub returns-in-Ok-clause-fit : goal.returns-in-Ok-clause-fit
 returns-in-Ok-clause-fit g c = record {
   sound = c.note_mark.ensures.sound;
-  ready = ready-mark (loom_told g.H.Host c.load.new.self) (loom_told g.H.Host c.note_mark.new.self) c.args.r ((core_of c.load.new.self.parts).entries c.in-Ok.s.0).name c.note_mark.ensures.marked (name-of g c)
+  ready = ready-mark (loom_told g.H.Host c.load.new.self) (loom_told g.H.Host c.note_mark.new.self) c.args.r ((core_of c.load.new.self.pager.levels.parts).entries c.in-Ok.s.0).name c.note_mark.ensures.marked (name-of g c)
       (thinned-ready (loom_told g.H.Host c.args.self.now) (loom_told g.H.Host c.load.new.self) c.in-Ok.ensures.thinned c.requires.fit.ready);
   lender = c.note_mark.ensures.lender ∙ c.in-Ok.ensures.lender;
   outside = c.note_mark.ensures.outside ∙ c.in-Ok.ensures.outside;
@@ -59,7 +59,7 @@ returns-in-Err-clause-own g c = refused-change g.H.Host c.args.self.now c.load.n
 pub returns-in-Ok-clause-cached : goal.returns-in-Ok-clause-cached
 returns-in-Ok-clause-cached g c = λ place.
     let m = c.args.self.now in
-    let s = (core_of c.load.new.self.parts).entries c.in-Ok.s.0 in
+    let s = (core_of c.load.new.self.pager.levels.parts).entries c.in-Ok.s.0 in
     let name : s.name ≡ name_at ((loom_told g.H.Host m).regs c.args.r) = ap name_at (sym (name-of g c)) ∙ ap (λ (z : Told). name_at (z.regs c.args.r)) c.in-Ok.ensures.thinned.same in
     c.note_mark.ensures.cached ∙ ap (λ (z : Cache). with_mark z (Some s.name)) (c.in-Ok.ensures.own.cached place) ∙ ap (λ n. with_mark (loom_told g.H.Host m).cache (Some n)) name
 
@@ -67,7 +67,7 @@ pub returns-in-Ok-clause-minds : goal.returns-in-Ok-clause-minds
 returns-in-Ok-clause-minds g c =
     let m = c.args.self.now in
     let u = c.load.new.self in
-    let s = (core_of u.parts).entries c.in-Ok.s.0 in
+    let s = (core_of u.pager.levels.parts).entries c.in-Ok.s.0 in
     let n = name_at ((loom_told g.H.Host m).regs c.args.r) in
     let name : s.name ≡ n = ap name_at (sym (name-of g c)) ∙ ap (λ (z : Told). name_at (z.regs c.args.r)) c.in-Ok.ensures.thinned.same in
     minds-mark g.H.Host m u c.note_mark.new.self n c.in-Ok.ensures.own.minds c.in-Ok.ensures.sound.kept.parts.core c.note_mark.ensures.sound.kept.parts.core c.note_mark.ensures.resting.remains c.note_mark.ensures.none c.note_mark.ensures.resting.idle.fetches c.in-Ok.ensures.own.reached.there

@@ -26,7 +26,7 @@ pub returns-clause-early : goal.returns-clause-early
 returns-clause-early g c =
     let fits : SFits w16 c.args.header = search rules in
     let same = to_z-of_z w16 c.args.header fits in
-    subst (λ z. IsTrue (g.H.Host.tells Work) → IfBounds (loom_told g.H.Host c.args.self.now).bounds (λ b. b.made < 8 → HasRoom c.args.self.now.parts (4 + body_words (body_made (OfMethod z c.args.code))) 27 → OnOk c.make_kind.result ((loom_told g.H.Host c.make_kind.new.self).heap ≡ heap_after (loom_told g.H.Host c.args.self.now).heap (loom_told g.H.Host c.args.self.now).regs (Make c.args.to c.args.class (OfMethod z c.args.code))))) (subst (λ (z : ℤ). IsSmallInteger z → int_of_short c.short_int.result ≡ z) same c.short_int.ensures.value c.requires.may.ranges.0) c.make_kind.ensures.early
+    subst (λ z. IsTrue (g.H.Host.tells Work) → IfBounds (loom_told g.H.Host c.args.self.now).bounds (λ b. b.made < 8 → HasRoom c.args.self.now.pager.levels.parts (4 + body_words (body_made (OfMethod z c.args.code))) 27 → OnOk c.make_kind.result ((loom_told g.H.Host c.make_kind.new.self).heap ≡ heap_after (loom_told g.H.Host c.args.self.now).heap (loom_told g.H.Host c.args.self.now).regs (Make c.args.to c.args.class (OfMethod z c.args.code))))) (subst (λ (z : ℤ). IsSmallInteger z → int_of_short c.short_int.result ≡ z) same c.short_int.ensures.value c.requires.may.ranges.0) c.make_kind.ensures.early
 
 pub returns-clause-own : goal.returns-clause-own
 returns-clause-own g c =

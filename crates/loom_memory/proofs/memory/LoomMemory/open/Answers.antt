@@ -14,7 +14,7 @@ use Rattle.loom_memory.proofs.ReachLaws.{freed-open}
 use Rattle.loom_memory.proofs.memory.LoomMemory.open.Goals as goal
 
 pub unmark-requires-clause-used : goal.unmark-requires-clause-used
-unmark-requires-clause-used g c = placed-used ((core_of c.load.new.self.parts).entries c.in-Ok.s.0).state c.in-Ok.ensures.loaded.at c.in-Ok.ensures.loaded.place
+unmark-requires-clause-used g c = placed-used ((core_of c.load.new.self.pager.levels.parts).entries c.in-Ok.s.0).state c.in-Ok.ensures.loaded.at c.in-Ok.ensures.loaded.place
 
 pub returns-in-Ok-clause-thinned : goal.returns-in-Ok-clause-thinned
 returns-in-Ok-clause-thinned g c =
@@ -44,7 +44,7 @@ returns-in-Ok-clause-minds g c =
     let u = c.load.new.self in
     let s = c.in-Ok.s.0 in
     let n = name_at ((loom_told g.H.Host m).regs c.args.of) in
-    minds-then g.H.Host m u c.unmark.new.self (IsBrought m u n) (λ k. k ≡ ((core_of u.parts).entries s).name) (λ k. k ≡ n) (λ k is. is.0) (λ k is. is ∙ entry-named g.H.Host m u c.args.of s c.in-Ok.ensures.sound c.in-Ok.ensures.thinned c.requires.name c.in-Ok.ensures.word) c.in-Ok.ensures.own.minds c.unmark.ensures.minds
+    minds-then g.H.Host m u c.unmark.new.self (IsBrought m u n) (λ k. k ≡ ((core_of u.pager.levels.parts).entries s).name) (λ k. k ≡ n) (λ k is. is.0) (λ k is. is ∙ entry-named g.H.Host m u c.args.of s c.in-Ok.ensures.sound c.in-Ok.ensures.thinned c.requires.name c.in-Ok.ensures.word) c.in-Ok.ensures.own.minds c.unmark.ensures.minds
 
 pub returns-in-Ok-clause-brings : goal.returns-in-Ok-clause-brings
 returns-in-Ok-clause-brings g c = brings-then c.args.self.now c.load.new.self c.unmark.new.self _ c.load.ensures.brings c.unmark.ensures.resting.idle.fetches

@@ -20,20 +20,20 @@ use Rattle.loom_memory.proofs.memory.LoomMemory.pin.Goals as goal
 use Rattle.loom_memory.proofs.memory.LoomMemory.pin.Given as given
 
 short-of : (g : given.Over) (c : goal.After-put_slot g) → is_short c.in-Ok.s.0 ≡ true
-short-of g c = c.in-Ok.ensures.sound.kept.parts.core.short c.in-Ok.s.0 (placed-used ((core_of c.load.new.self.parts).entries c.in-Ok.s.0).state c.in-Ok.ensures.loaded.at c.in-Ok.ensures.loaded.place)
+short-of g c = c.in-Ok.ensures.sound.kept.parts.core.short c.in-Ok.s.0 (placed-used ((core_of c.load.new.self.pager.levels.parts).entries c.in-Ok.s.0).state c.in-Ok.ensures.loaded.at c.in-Ok.ensures.loaded.place)
 
-value-of : (g : given.Over) (c : goal.After-put_slot g) → (loom_told g.H.Host c.load.new.self).regs c.args.r ≡ meant (core_of c.load.new.self.parts).entries [] 0 c.in-Ok.s.0
+value-of : (g : given.Over) (c : goal.After-put_slot g) → (loom_told g.H.Host c.load.new.self).regs c.args.r ≡ meant (core_of c.load.new.self.pager.levels.parts).entries [] 0 c.in-Ok.s.0
 unfolding loom_told
-value-of g c = ap (meant (core_of c.load.new.self.parts).entries [] 0) (sym c.in-Ok.ensures.word)
+value-of g c = ap (meant (core_of c.load.new.self.pager.levels.parts).entries [] 0) (sym c.in-Ok.ensures.word)
 
 pub put_slot-requires-clause-body : goal.put_slot-requires-clause-body
-put_slot-requires-clause-body g c = λ some. (c.in-Ok.ensures.sound.kept.parts.core.short c.in-Ok.s.0 (placed-used ((core_of c.load.new.self.parts).entries c.in-Ok.s.0).state c.in-Ok.ensures.loaded.at c.in-Ok.ensures.loaded.place), (c.in-Ok.ensures.loaded.at, c.in-Ok.ensures.loaded.place))
+put_slot-requires-clause-body g c = λ some. (c.in-Ok.ensures.sound.kept.parts.core.short c.in-Ok.s.0 (placed-used ((core_of c.load.new.self.pager.levels.parts).entries c.in-Ok.s.0).state c.in-Ok.ensures.loaded.at c.in-Ok.ensures.loaded.place), (c.in-Ok.ensures.loaded.at, c.in-Ok.ensures.loaded.place))
 
 pub returns-in-Ok-clause-access : goal.returns-in-Ok-clause-access
 returns-in-Ok-clause-access g c =
     let n = c.load.new.self in
-    pin-freed (loom_told g.H.Host c.args.self.now) (loom_told g.H.Host n) (loom_told g.H.Host c.put_slot.new.self) c.args.slot c.args.r (name_if (core_of n.parts).entries c.in-Ok.s.0) c.in-Ok.ensures.thinned
-    (pin-name (core_of n.parts) c.in-Ok.s.0 ((loom_told g.H.Host n).regs c.args.r) (short-of g c) (value-of g c)) c.put_slot.ensures.told (c.in-Ok.ensures.core (Pin c.args.slot c.args.r) refl refl)
+    pin-freed (loom_told g.H.Host c.args.self.now) (loom_told g.H.Host n) (loom_told g.H.Host c.put_slot.new.self) c.args.slot c.args.r (name_if (core_of n.pager.levels.parts).entries c.in-Ok.s.0) c.in-Ok.ensures.thinned
+    (pin-name (core_of n.pager.levels.parts) c.in-Ok.s.0 ((loom_told g.H.Host n).regs c.args.r) (short-of g c) (value-of g c)) c.put_slot.ensures.told (c.in-Ok.ensures.core (Pin c.args.slot c.args.r) refl refl)
 
 pub returns-in-Ok-clause-fit : goal.returns-in-Ok-clause-fit
 returns-in-Ok-clause-fit g c =
@@ -41,8 +41,8 @@ returns-in-Ok-clause-fit g c =
     let ready = thinned-ready (loom_told g.H.Host c.args.self.now) (loom_told g.H.Host n) c.in-Ok.ensures.thinned c.requires.fit.ready in
     record {
       sound = c.put_slot.ensures.sound;
-      ready = subst (λ (t : Told). IsReady t) (sym c.put_slot.ensures.told) (ready-pin (loom_told g.H.Host n) c.args.slot (name_if (core_of n.parts).entries c.in-Ok.s.0)
-          (λ k e told. pin-has (loom_told g.H.Host n) (core_of n.parts) c.args.r c.in-Ok.s.0 k ready (short-of g c) (value-of g c) e told) ready);
+      ready = subst (λ (t : Told). IsReady t) (sym c.put_slot.ensures.told) (ready-pin (loom_told g.H.Host n) c.args.slot (name_if (core_of n.pager.levels.parts).entries c.in-Ok.s.0)
+          (λ k e told. pin-has (loom_told g.H.Host n) (core_of n.pager.levels.parts) c.args.r c.in-Ok.s.0 k ready (short-of g c) (value-of g c) e told) ready);
       lender = c.put_slot.ensures.lender ∙ c.in-Ok.ensures.lender;
       outside = c.put_slot.ensures.outside ∙ c.in-Ok.ensures.outside;
     }
@@ -63,4 +63,4 @@ returns-in-Ok-clause-brings g c = brings-then c.args.self.now c.load.new.self c.
 
 pub returns-in-Ok-clause-gone : goal.returns-in-Ok-clause-gone
 returns-in-Ok-clause-gone g c = done-by {T = Unit {0}} (Ok tt) g.H.Host c.args.self.now c.load.new.self c.put_slot.new.self (name_at ((loom_told g.H.Host c.args.self.now).regs c.args.r)) (Pin c.args.slot c.args.r) c.in-Ok.ensures.thinned c.in-Ok.ensures.gone (λ told. ap (λ (t : Told). t.heap) c.put_slot.ensures.told) c.put_slot.ensures.due
-    (stays-on c.args.self.now c.load.new.self c.put_slot.new.self (pin_in c.args.self.now.pinned c.args.slot) (pin_in c.load.new.self.pinned c.args.slot) c.in-Ok.ensures.gone.stays (ap (λ (x : Pinned). pin_in x c.args.slot) c.in-Ok.ensures.pins) c.put_slot.ensures.stays)
+    (stays-on c.args.self.now c.load.new.self c.put_slot.new.self (pin_in c.args.self.now.pager.pinned c.args.slot) (pin_in c.load.new.self.pager.pinned c.args.slot) c.in-Ok.ensures.gone.stays (ap (λ (x : Pinned). pin_in x c.args.slot) c.in-Ok.ensures.pins) c.put_slot.ensures.stays)

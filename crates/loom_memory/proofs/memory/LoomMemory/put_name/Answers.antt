@@ -23,7 +23,7 @@ pub returns-in-Ok-clause-naming : goal.returns-in-Ok-clause-naming
 returns-in-Ok-clause-naming g c =
     let n = c.entry_of.new.self in
     naming-is (loom_told g.H.Host c.args.self.now) (loom_told g.H.Host n) (loom_told g.H.Host c.put_word.new.self) c.args.to c.args.name c.in-Ok.ensures.quiet
-    (c.put_word.ensures.told ∙ ap (λ (v : Value). record (loom_told g.H.Host n) { regs = set_register (loom_told g.H.Host n).regs c.args.to v }) (meant-short (core_of n.parts).entries [] 0 c.in-Ok.s.0 c.in-Ok.ensures.found.short ∙ ap Ref c.in-Ok.ensures.found.named))
+    (c.put_word.ensures.told ∙ ap (λ (v : Value). record (loom_told g.H.Host n) { regs = set_register (loom_told g.H.Host n).regs c.args.to v }) (meant-short (core_of n.pager.levels.parts).entries [] 0 c.in-Ok.s.0 c.in-Ok.ensures.found.short ∙ ap Ref c.in-Ok.ensures.found.named))
 
 pub returns-in-Ok-clause-steady : goal.returns-in-Ok-clause-steady
 returns-in-Ok-clause-steady g c = λ room. steady-trans g.H.Host c.args.self.now c.entry_of.new.self c.put_word.new.self (c.in-Ok.ensures.steady room) c.put_word.ensures.steady

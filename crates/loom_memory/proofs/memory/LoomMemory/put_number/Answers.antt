@@ -12,5 +12,5 @@ put_word-requires-clause-used g c = λ is. absurd (odd-apart c.args.w c.requires
 pub returns-then-w-eq1-clause-told : goal.returns-then-w-eq1-clause-told
 returns-then-w-eq1-clause-told g c =
     let m = c.args.self.now in
-    subst (λ (w : ℕ). loom_told g.H.Host c.put_apart.new.self ≡ (record (loom_told g.H.Host m) { regs = set_register (loom_told g.H.Host m).regs c.args.to (meant (core_of m.parts).entries [] 0 w) }))
+    subst (λ (w : ℕ). loom_told g.H.Host c.put_apart.new.self ≡ (record (loom_told g.H.Host m) { regs = set_register (loom_told g.H.Host m).regs c.args.to (meant (core_of m.pager.levels.parts).entries [] 0 w) }))
     (sym c.if-w-eq1.true) c.put_apart.ensures.told

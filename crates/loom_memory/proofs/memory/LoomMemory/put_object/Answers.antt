@@ -21,7 +21,7 @@ returns-in-Some-clause-made g c =
     let m = c.args.self.now in
     let n = c.add_object.new.self in
     added-made (loom_told g.H.Host m) (loom_told g.H.Host n) (loom_told g.H.Host c.put_word.new.self) c.args.to c.args.class c.args.name _ c.in-Some.ensures.added
-    (c.put_word.ensures.told ∙ ap (λ (v : Value). record (loom_told g.H.Host n) { regs = set_register (loom_told g.H.Host n).regs c.args.to v }) (entry-means (core_of n.parts) c.in-Some.s.0 c.args.name c.in-Some.ensures.entry))
+    (c.put_word.ensures.told ∙ ap (λ (v : Value). record (loom_told g.H.Host n) { regs = set_register (loom_told g.H.Host n).regs c.args.to v }) (entry-means (core_of n.pager.levels.parts) c.in-Some.s.0 c.args.name c.in-Some.ensures.entry))
     (λ told. sym (told-next g.H.Host m told ∙ c.requires.next))
 
 pub returns-in-None-clause-err : goal.returns-in-None-clause-err
@@ -40,7 +40,7 @@ pub returns-in-Some-clause-there : goal.returns-in-Some-clause-there
 returns-in-Some-clause-there g c =
     let n = c.add_object.new.self in
     put-resident g.H.Host n c.put_word.new.self c.args.to c.args.name c.in-Some.ensures.sound.kept.parts.core c.put_word.ensures.sound.kept.parts.core c.put_word.ensures.steady
-    (c.put_word.ensures.told ∙ ap (λ (v : Value). record (loom_told g.H.Host n) { regs = set_register (loom_told g.H.Host n).regs c.args.to v }) (entry-means (core_of n.parts) c.in-Some.s.0 c.args.name c.in-Some.ensures.entry))
+    (c.put_word.ensures.told ∙ ap (λ (v : Value). record (loom_told g.H.Host n) { regs = set_register (loom_told g.H.Host n).regs c.args.to v }) (entry-means (core_of n.pager.levels.parts) c.in-Some.s.0 c.args.name c.in-Some.ensures.entry))
     c.in-Some.ensures.there
 
 pub returns-in-Some-clause-fetches : goal.returns-in-Some-clause-fetches
@@ -74,7 +74,7 @@ pub returns-in-Some-clause-minds : goal.returns-in-Some-clause-minds
 returns-in-Some-clause-minds g c =
     let n = c.add_object.new.self in
     minds-put g.H.Host c.args.self.now n c.put_word.new.self c.args.to c.args.name c.in-Some.ensures.minds c.in-Some.ensures.sound.kept.parts.core c.put_word.ensures.sound.kept.parts.core c.put_word.ensures.steady
-    (c.put_word.ensures.told ∙ ap (λ (v : Value). record (loom_told g.H.Host n) { regs = set_register (loom_told g.H.Host n).regs c.args.to v }) (entry-means (core_of n.parts) c.in-Some.s.0 c.args.name c.in-Some.ensures.entry))
+    (c.put_word.ensures.told ∙ ap (λ (v : Value). record (loom_told g.H.Host n) { regs = set_register (loom_told g.H.Host n).regs c.args.to v }) (entry-means (core_of n.pager.levels.parts) c.in-Some.s.0 c.args.name c.in-Some.ensures.entry))
 
 pub returns-in-None-clause-fetches : goal.returns-in-None-clause-fetches
 returns-in-None-clause-fetches g c = c.refuse.ensures.brings ∙ c.add_object.ensures.fetches

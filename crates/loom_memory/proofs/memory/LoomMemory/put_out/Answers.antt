@@ -19,7 +19,7 @@ pub returns-in-Disk-clause-err : goal.returns-in-Disk-clause-err
 returns-in-Disk-clause-err g c =
     let m = c.args.self.now in
     thins-refused g.H.Host m c.room.new.self (loom_told g.H.Host c.refuse.new.self) c.in-Disk.f c.refusal_of-f.result c.refuse.result c.in-Err.ensures.ledger c.in-Err.ensures.work c.in-Err.ensures.limit
-    (subst (λ (z : RoomFault). OnDisk z (IsPurgeFault g.H.Host m.disk.host.now c.room.new.self.disk.host.now)) c.in-Disk.is c.in-Err.ensures.fault)
+    (subst (λ (z : RoomFault). OnDisk z (IsPurgeFault g.H.Host m.pager.levels.disk.host.now c.room.new.self.pager.levels.disk.host.now)) c.in-Disk.is c.in-Err.ensures.fault)
     c.refusal_of-f.ensures c.refuse.ensures.told c.refuse.ensures.result c.refuse.ensures.later
 
 pub returns-in-Ok-clause-pinned : goal.returns-in-Ok-clause-pinned
@@ -37,7 +37,7 @@ returns-in-Short-clause-pinned g c = λ n.
     let m = c.args.self.now in
     let u = c.room.new.self in
     only-pinned g.H.Host u n (subst (λ (z : RoomFault). OnShort z (IsSound g.H.Host u)) c.in-Short.is c.in-Err.ensures.sound)
-    (bare-then (core_of u.parts) (core_of u.parts) m.pinned u.pinned (subst (λ (z : RoomFault). OnShort z (IsShort u.parts m.pinned.a m.pinned.b m.pinned.d 0 c.too_many-entries.result)) c.in-Short.is c.in-Err.ensures.short).bare refl c.room.ensures.pins)
+    (bare-then (core_of u.pager.levels.parts) (core_of u.pager.levels.parts) m.pager.pinned u.pager.pinned (subst (λ (z : RoomFault). OnShort z (IsShort u.pager.levels.parts m.pager.pinned.a m.pager.pinned.b m.pager.pinned.d 0 c.too_many-entries.result)) c.in-Short.is c.in-Err.ensures.short).bare refl c.room.ensures.pins)
 
 pub returns-in-Ok-clause-fetches : goal.returns-in-Ok-clause-fetches
 returns-in-Ok-clause-fetches g c = fetched-same c.args.self.now c.room.new.self c.room.ensures.ledger

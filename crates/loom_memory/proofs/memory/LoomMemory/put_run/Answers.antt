@@ -18,19 +18,19 @@ returns-in-Ok-clause-sound g c = record {
   kept = c.requires.sound.kept;
   over = put-sound g.H.Host c.args.self.now c.write_to.new.self.host.now c.write_to.new.self.rest c.requires.sound c.write_to.ensures.rest c.write_to.ensures.work (λ told. (c.write_to.ensures.keeps c.requires.sound.over.stands told).stands told);
   soon = c.requires.sound.soon;
-  exact = exact-work g.H.Host c.args.self.now.parts c.args.self.now.disk.host.now c.write_to.new.self.host.now c.args.self.now.disk.rest c.write_to.new.self.rest c.args.self.now.ledger.next c.requires.sound.exact c.write_to.ensures.rest c.write_to.ensures.work;
+  exact = exact-work g.H.Host c.args.self.now.pager.levels.parts c.args.self.now.pager.levels.disk.host.now c.write_to.new.self.host.now c.args.self.now.pager.levels.disk.rest c.write_to.new.self.rest c.args.self.now.ledger.next c.requires.sound.exact c.write_to.ensures.rest c.write_to.ensures.work;
   thin = thin-of g.H.Host c.args.self.now _ c.requires.sound.thin (λ on. on) (ap (λ (t : Told). t.heap) (returns-in-Ok-clause-put g c).same) (ap (λ (t : Told). t.regs) (returns-in-Ok-clause-put g c).same) (ap (λ (t : Told). t.slots) (returns-in-Ok-clause-put g c).same);
 }
 
 pub returns-in-Ok-clause-outside : goal.returns-in-Ok-clause-outside
 unfolding loom_outside
-returns-in-Ok-clause-outside g c = put-outside g.H.Host c.args.self.now.disk.host.now c.write_to.new.self.host.now c.write_to.ensures.others c.write_to.ensures.other_faults
+returns-in-Ok-clause-outside g c = put-outside g.H.Host c.args.self.now.pager.levels.disk.host.now c.write_to.new.self.host.now c.write_to.ensures.others c.write_to.ensures.other_faults
 
 pub returns-in-Err-clause-part : goal.returns-in-Err-clause-part
 unfolding loom_told
 returns-in-Err-clause-part g c =
     let m = c.args.self.now in
-    let part = put-part (g.H.Host.tells Transcript) c.args.run.now (g.H.Host.roles m.disk.host.now Transcript) (g.H.Host.roles c.write_to.new.self.host.now Transcript) c.in-Err.ensures.failed in
+    let part = put-part (g.H.Host.tells Transcript) c.args.run.now (g.H.Host.roles m.pager.levels.disk.host.now Transcript) (g.H.Host.roles c.write_to.new.self.host.now Transcript) c.in-Err.ensures.failed in
     (part.0, put-told g.H.Host m c.write_to.new.self.host.now c.write_to.new.self.rest (take part.0 c.args.run.now) c.write_to.ensures.rest c.write_to.ensures.work c.write_to.ensures.other_faults c.write_to.ensures.cause.later part.1)
 
 pub returns-in-Err-clause-count : goal.returns-in-Err-clause-count
@@ -46,13 +46,13 @@ returns-in-Err-clause-sound g c = record {
   kept = c.requires.sound.kept;
   over = put-sound g.H.Host c.args.self.now c.write_to.new.self.host.now c.write_to.new.self.rest c.requires.sound c.write_to.ensures.rest c.write_to.ensures.work (λ told. (c.write_to.ensures.keeps c.requires.sound.over.stands told).stands told);
   soon = c.requires.sound.soon;
-  exact = exact-work g.H.Host c.args.self.now.parts c.args.self.now.disk.host.now c.write_to.new.self.host.now c.args.self.now.disk.rest c.write_to.new.self.rest c.args.self.now.ledger.next c.requires.sound.exact c.write_to.ensures.rest c.write_to.ensures.work;
+  exact = exact-work g.H.Host c.args.self.now.pager.levels.parts c.args.self.now.pager.levels.disk.host.now c.write_to.new.self.host.now c.args.self.now.pager.levels.disk.rest c.write_to.new.self.rest c.args.self.now.ledger.next c.requires.sound.exact c.write_to.ensures.rest c.write_to.ensures.work;
   thin = thin-of g.H.Host c.args.self.now _ c.requires.sound.thin (λ on. on) (ap (λ (t : Told). t.heap) (returns-in-Err-clause-part g c).1.same) (ap (λ (t : Told). t.regs) (returns-in-Err-clause-part g c).1.same) (ap (λ (t : Told). t.slots) (returns-in-Err-clause-part g c).1.same);
 }
 
 pub returns-in-Err-clause-outside : goal.returns-in-Err-clause-outside
 unfolding loom_outside
-returns-in-Err-clause-outside g c = put-outside g.H.Host c.args.self.now.disk.host.now c.write_to.new.self.host.now c.write_to.ensures.others c.write_to.ensures.other_faults
+returns-in-Err-clause-outside g c = put-outside g.H.Host c.args.self.now.pager.levels.disk.host.now c.write_to.new.self.host.now c.write_to.ensures.others c.write_to.ensures.other_faults
 
 pub returns-in-Ok-clause-speech : goal.returns-in-Ok-clause-speech
 returns-in-Ok-clause-speech g c = record { parts = refl; ledger = refl; due = refl; thinned = refl; work = c.write_to.ensures.work; writes = c.write_to.ensures.writes }

@@ -12,7 +12,7 @@ use Rattle.loom_memory.proofs.memory.LoomMemory.refuse.Goals as goal
 
 pub returns-clause-told : goal.returns-clause-told
 unfolding loom_told
-returns-clause-told g c = let m = c.args.self.now in ap (λ (k : Ledger). told_of g.H.Host m.disk.host.now m.disk.rest (core_of m.parts) m.regs m.pinned k) c.refuse.ensures.refused
+returns-clause-told g c = let m = c.args.self.now in ap (λ (k : Ledger). told_of g.H.Host m.pager.levels.disk.host.now m.pager.levels.disk.rest (core_of m.pager.levels.parts) m.regs m.pager.pinned k) c.refuse.ensures.refused
 
 pub returns-clause-later : goal.returns-clause-later
 unfolding loom_told
@@ -31,8 +31,8 @@ returns-clause-spared g c =
     let m = c.args.self.now in
     record {
       idle = record { host = refl; rest = refl; fetches = ap (λ (k : Ledger). k.fetches) c.refuse.ensures.refused };
-      remains = λ told. remains-refl (core_of m.parts);
-      cached = λ told. ap (λ (k : Ledger). cache_of (core_of m.parts) (found k.rows) k.mark k.begun) c.refuse.ensures.refused;
+      remains = λ told. remains-refl (core_of m.pager.levels.parts);
+      cached = λ told. ap (λ (k : Ledger). cache_of (core_of m.pager.levels.parts) (found k.rows) k.mark k.begun) c.refuse.ensures.refused;
     }
 
 pub returns-clause-brings : goal.returns-clause-brings

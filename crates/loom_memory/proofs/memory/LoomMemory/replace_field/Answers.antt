@@ -16,7 +16,7 @@ use Rattle.loom_memory.proofs.MindLaws.{minds-step}
 use Rattle.loom_memory.proofs.memory.LoomMemory.replace_field.Goals as goal
 
 pub unmark-requires-clause-used : goal.unmark-requires-clause-used
-unmark-requires-clause-used g c = placed-used ((core_of c.args.self.now.parts).entries c.args.s.0).state c.requires.there.0 c.requires.there.1.place
+unmark-requires-clause-used g c = placed-used ((core_of c.args.self.now.pager.levels.parts).entries c.args.s.0).state c.requires.there.0 c.requires.there.1.place
 
 pub place_of_body-at-requires-clause-there : goal.place_of_body-at-requires-clause-there
 place_of_body-at-requires-clause-there g c = (c.requires.there.0, c.unmark.ensures.place ∙ c.requires.there.1.place)
@@ -27,20 +27,20 @@ exchange_field-requires-clause-word g c = c.requires.word ∙ ap (λ (regs : Lis
 pub exchange_field-requires-clause-there : goal.exchange_field-requires-clause-there
 exchange_field-requires-clause-there g c =
     let there = c.requires.there in
-    (c.args.w, at-place-of (core_of c.unmark.new.self.parts) c.args.s.0 there.0 c.place_of_body-at.result.place c.args.i c.args.w (c.unmark.ensures.field there.0 c.args.i c.args.w there.1) c.place_of_body-at.ensures)
+    (c.args.w, at-place-of (core_of c.unmark.new.self.pager.levels.parts) c.args.s.0 there.0 c.place_of_body-at.result.place c.args.i c.args.w (c.unmark.ensures.field there.0 c.args.i c.args.w there.1) c.place_of_body-at.ensures)
 
 pub exchange_field-requires-clause-used : goal.exchange_field-requires-clause-used
 exchange_field-requires-clause-used g c = λ is.
     let there = c.requires.there in
-    word-live (core_of c.unmark.new.self.parts) c.args.s.0 there.0 c.args.i c.args.w c.unmark.ensures.sound.kept.parts.core (c.unmark.ensures.field there.0 c.args.i c.args.w there.1) is
+    word-live (core_of c.unmark.new.self.pager.levels.parts) c.args.s.0 there.0 c.args.i c.args.w c.unmark.ensures.sound.kept.parts.core (c.unmark.ensures.field there.0 c.args.i c.args.w there.1) is
 
 pub exchange_field-requires-clause-before : goal.exchange_field-requires-clause-before
 unfolding loom_told
 exchange_field-requires-clause-before g c = λ told.
     let n = c.unmark.new.self in
     let there = c.requires.there in
-    field-told (g.H.Host.tells Work) (core_of n.parts) (disk_of g.H.Host n.disk.host.now n.disk.rest) n.ledger.next c.args.s.0 there.0 0 c.args.of c.args.i c.args.w (loom_told g.H.Host n).regs told c.unmark.ensures.sound.kept.parts.core (c.unmark.ensures.field there.0 c.args.i c.args.w there.1) there.2
-    (ap (meant (core_of n.parts).entries [] 0) (sym (c.requires.word ∙ ap (λ (regs : List ℕ). word_in regs c.args.of) (sym c.unmark.ensures.regs))))
+    field-told (g.H.Host.tells Work) (core_of n.pager.levels.parts) (disk_of g.H.Host n.pager.levels.disk.host.now n.pager.levels.disk.rest) n.ledger.next c.args.s.0 there.0 0 c.args.of c.args.i c.args.w (loom_told g.H.Host n).regs told c.unmark.ensures.sound.kept.parts.core (c.unmark.ensures.field there.0 c.args.i c.args.w there.1) there.2
+    (ap (meant (core_of n.pager.levels.parts).entries [] 0) (sym (c.requires.word ∙ ap (λ (regs : List ℕ). word_in regs c.args.of) (sym c.unmark.ensures.regs))))
 
 -- ---- the word is there
 
@@ -70,7 +70,7 @@ pub returns-clause-minds : goal.returns-clause-minds
 returns-clause-minds g c =
     let m = c.args.self.now in
     let u = c.unmark.new.self in
-    minds-step g.H.Host m u c.exchange_field.new.self (λ k. k ≡ ((core_of m.parts).entries c.args.s.0).name) c.unmark.ensures.minds c.unmark.ensures.sound.kept.parts.core c.exchange_field.ensures.sound.kept.parts.core c.exchange_field.ensures.resting.remains c.exchange_field.ensures.none c.exchange_field.ensures.cached
+    minds-step g.H.Host m u c.exchange_field.new.self (λ k. k ≡ ((core_of m.pager.levels.parts).entries c.args.s.0).name) c.unmark.ensures.minds c.unmark.ensures.sound.kept.parts.core c.exchange_field.ensures.sound.kept.parts.core c.exchange_field.ensures.resting.remains c.exchange_field.ensures.none c.exchange_field.ensures.cached
 
 pub returns-then-word_of-w-clause-stays : goal.returns-then-word_of-w-clause-stays
 returns-then-word_of-w-clause-stays g c = λ on named. c.unmark.ensures.flag ∙ on

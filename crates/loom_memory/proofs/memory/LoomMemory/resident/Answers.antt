@@ -12,8 +12,8 @@ used_entry-requires g c = c.requires.kept.parts.core.used c.args.name c.in-Some.
 
 pub returns-in-Some : goal.returns-in-Some
 unfolding core_of is_resident
-returns-in-Some g c = c.is_some.ensures ∙ ap (λ (x : Option ℕ). is_some x) (c.place.ensures ∙ ap (λ (e : Entry). place_of e.state) c.used_entry.ensures) ∙ sym (ap (λ (x : Option ℕ). has_body (core_of c.args.self.now.parts) x) (sym c.in-Some.ensures))
+returns-in-Some g c = c.is_some.ensures ∙ ap (λ (x : Option ℕ). is_some x) (c.place.ensures ∙ ap (λ (e : Entry). place_of e.state) c.used_entry.ensures) ∙ sym (ap (λ (x : Option ℕ). has_body (core_of c.args.self.now.pager.levels.parts) x) (sym c.in-Some.ensures))
 
 pub returns-in-None : goal.returns-in-None
 unfolding core_of is_resident
-returns-in-None g c = sym (ap (λ (x : Option ℕ). has_body (core_of c.args.self.now.parts) x) (sym c.in-None.ensures))
+returns-in-None g c = sym (ap (λ (x : Option ℕ). has_body (core_of c.args.self.now.pager.levels.parts) x) (sym c.in-None.ensures))

@@ -1,55 +1,46 @@
-use Rattle.std.proofs.Common.{refl, arith}
-use Rattle.leaf_lambda.specs.Parts.{core_of}
-use Rattle.loom_memory.specs.Memory.{loom_told, loom_outside, IsKept, IsCalm}
-use Rattle.loom_memory.proofs.RegLaws.{kept-rooted}
-use Rattle.loom_memory.proofs.ExactLaws.{exact-has, exact-if}
-use Rattle.loom_memory.proofs.CalmLaws.{purged-calm, calm-kept, quiet-if, sound-if, work-outside, kept-if}
-use Rattle.loom_memory.proofs.GentleLaws.{bodies-remain, rest-refl}
-use Rattle.loom_memory.proofs.MindLaws.{marks-keep}
-use Rattle.loom_memory.proofs.MindLaws.{minds-room}
+use Rattle.std.proofs.Common.{refl}
+use Rattle.purger.specs.Pager.{Preserves}
+use Rattle.purger.proofs.RoomLaws.{undisturbed-map}
 use Rattle.loom_memory.specs.Residents.{fetched}
-use Rattle.loom_memory.proofs.DeadLaws.{thin-if}
 use Rattle.loom_memory.specs.Thinned.{is_thinned}
+use Rattle.loom_memory.proofs.PagerLaws.{moves-cache, moves-rests, pager-calm, pager-minds, pager-outside, pager-quiet, pager-ready, pager-sound, pinned-short}
 use Rattle.loom_memory.proofs.memory.LoomMemory.room.Goals as goal
-use Rattle.loom_memory.proofs.memory.LoomMemory.room.Given as given
 
-pub make_room-requires-clause-counted : goal.make_room-requires-clause-counted
-make_room-requires-clause-counted g c = λ told. let all = c.requires.sound.over.counted told in let most = c.requires.sound.over.roomy in omega arith
-
-pub make_room-requires-clause-sound : goal.make_room-requires-clause-sound
-make_room-requires-clause-sound g c = let m = c.args.self.now in exact-has g.H.Host m.parts m.disk.host.now m.disk.rest m.ledger.next c.requires.sound.exact
-
-calm-of : (g : given.Over) (c : goal.After-make_room g) → IsCalm c.args.self.now.pinned (core_of c.args.self.now.parts) (core_of c.make_room.new.p)
-calm-of g c = purged-calm c.args.self.now.pinned (core_of c.args.self.now.parts) (core_of c.make_room.new.p) c.make_room.ensures.purged c.make_room.ensures.marks (λ h. c.make_room.ensures.here)
-
-kept-of : (g : given.Over) (c : goal.After-make_room g) → IsKept c.make_room.new.p c.args.self.now.regs c.args.self.now.pinned c.args.self.now.ledger
-kept-of g c = calm-kept c.args.self.now.parts c.make_room.new.p c.args.self.now.regs c.args.self.now.pinned c.args.self.now.ledger c.requires.sound.kept (calm-of g c) c.make_room.ensures.parts c.make_room.ensures.tight c.make_room.ensures.size
+pub make_room-requires : goal.make_room-requires
+make_room-requires g c = record { ready = pager-ready g.H.Host c.args.self.now c.requires.sound }
 
 pub returns-clause-calm : goal.returns-clause-calm
-returns-clause-calm g c = calm-of g c
+returns-clause-calm g c = pager-calm c.args.self.now.pager c.make_room.new.self c.make_room.ensures.clears.leaves
 
 pub returns-clause-quiet : goal.returns-clause-quiet
-unfolding loom_told
-returns-clause-quiet g c = let m = c.args.self.now in quiet-if g.H.Host c.make_room.result m.disk.host.now c.make_room.new.disk.host.now m.disk.rest c.make_room.new.disk.rest (core_of m.parts) (core_of c.make_room.new.p) m.regs m.pinned m.ledger
-    (kept-rooted m.parts m.regs m.pinned m.ledger c.requires.sound.kept) c.make_room.ensures.parts.core c.requires.sound.kept.cached (calm-of g c) c.make_room.ensures.work c.make_room.ensures.limit c.make_room.ensures.keeps
+returns-clause-quiet g c = let m = c.args.self.now in let x = c.make_room.ensures.clears in
+    undisturbed-map c.make_room.result (λ (k : Preserves m.pager c.make_room.new.self). pager-quiet g.H.Host m c.make_room.new.self c.requires.sound x.leaves k) x.keeps
 
 pub returns-clause-sound : goal.returns-clause-sound
-returns-clause-sound g c = let m = c.args.self.now in kept-if g.H.Host c.make_room.result _ (kept-of g c) (sound-if g.H.Host c.make_room.result m.disk.host.now c.make_room.new.disk.host.now m.disk.rest c.make_room.new.disk.rest (core_of m.parts) (core_of c.make_room.new.p) m.ledger c.requires.sound.over c.make_room.ensures.limit c.make_room.ensures.stands c.make_room.ensures.keeps c.make_room.ensures.counted)
-    (exact-if g.H.Host c.make_room.result m.parts c.make_room.new.p m.disk.host.now c.make_room.new.disk.host.now m.disk.rest c.make_room.new.disk.rest m.ledger.next c.requires.sound.exact c.make_room.ensures.sound)
-    (thin-if g.H.Host c.make_room.result m _ c.requires.sound.thin (λ on. on) (returns-clause-quiet g c)) c.requires.sound.soon
-
-pub returns-clause-outside : goal.returns-clause-outside
-unfolding loom_outside
-returns-clause-outside g c = work-outside g.H.Host c.args.self.now.disk.host.now c.make_room.new.disk.host.now c.make_room.ensures.work
-
-pub returns-clause-needless : goal.returns-clause-needless
-returns-clause-needless g c = λ room. let is = c.make_room.ensures.needless room in rest-refl c.args.self.now _ (bodies-remain (core_of c.args.self.now.parts) (core_of c.make_room.new.p) is.0) is.1 is.2 refl
-
-pub returns-clause-cached : goal.returns-clause-cached
-returns-clause-cached g c = λ room. marks-keep g.H.Host c.args.self.now _ c.requires.sound c.make_room.ensures.parts.core (c.make_room.ensures.marked room) refl
+returns-clause-sound g c = let m = c.args.self.now in let x = c.make_room.ensures.clears in
+    undisturbed-map c.make_room.result (λ (k : Preserves m.pager c.make_room.new.self). pager-sound g.H.Host m c.make_room.new.self c.requires.sound x.leaves k) x.keeps
 
 pub returns-clause-minds : goal.returns-clause-minds
-returns-clause-minds g c = minds-room c.make_room.result g.H.Host c.args.self.now _ c.requires.sound (returns-clause-sound g c) refl c.make_room.ensures.minds
+returns-clause-minds g c = let m = c.args.self.now in let x = c.make_room.ensures.clears in
+    undisturbed-map c.make_room.result (λ (k : Preserves m.pager c.make_room.new.self). pager-minds g.H.Host m c.make_room.new.self c.requires.sound x.leaves k) x.keeps
+
+pub returns-clause-short : goal.returns-clause-short
+returns-clause-short g c = pinned-short c.make_room.result c.args.self.now.pager c.make_room.new.self c.args.words c.args.entries c.make_room.ensures.clears.leaves.pinned c.make_room.ensures.makes.short
+
+pub returns-clause-outside : goal.returns-clause-outside
+returns-clause-outside g c = pager-outside g.H.Host c.args.self.now c.make_room.new.self c.make_room.ensures.clears.leaves
+
+pub returns-clause-leaves : goal.returns-clause-leaves
+returns-clause-leaves g c = c.make_room.ensures.clears.leaves.purged.leaves
+
+pub returns-clause-sure : goal.returns-clause-sure
+returns-clause-sure g c = λ room. (c.make_room.ensures.needless room).0
+
+pub returns-clause-needless : goal.returns-clause-needless
+returns-clause-needless g c = λ room. moves-rests g.H.Host c.args.self.now c.make_room.new.self (c.make_room.ensures.needless room).1
+
+pub returns-clause-cached : goal.returns-clause-cached
+returns-clause-cached g c = λ room. moves-cache g.H.Host c.args.self.now c.make_room.new.self c.requires.sound (c.make_room.ensures.needless room).1
 
 pub returns-clause-brings : goal.returns-clause-brings
 unfolding fetched

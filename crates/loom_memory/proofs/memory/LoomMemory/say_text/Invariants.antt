@@ -11,10 +11,10 @@ invariant-loop-i g l = record {
   within : l.i ≤ l.fn.len;
   said : (t : Told) → IsSaid t (loom_told g.H.Host l.fn.self) l.fn.of 0 → IsSaid t (loom_told g.H.Host l.self) l.fn.of l.i;
   sound : IsSound g.H.Host l.self;
-  parts : l.self.parts ≡ l.fn.self.parts;
+  parts : l.self.pager.levels.parts ≡ l.fn.self.pager.levels.parts;
   brings : fetched l.self ≡ fetched l.fn.self;
   speech : IsSpeech g.H.Host l.fn.self l.self;
-  lender : l.self.disk.host.ghost_name ≡ l.fn.self.disk.host.ghost_name;
+  lender : l.self.pager.levels.disk.host.ghost_name ≡ l.fn.self.pager.levels.disk.host.ghost_name;
   outside : loom_outside g.H.Host l.self ≡ loom_outside g.H.Host l.fn.self;
 }
 

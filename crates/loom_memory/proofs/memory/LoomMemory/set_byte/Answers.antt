@@ -50,7 +50,7 @@ returns-in-Ok-clause-cached g c = then-keeps c.store_byte.result g.H.Host c.args
 pub returns-in-Ok-clause-damage : goal.returns-in-Ok-clause-damage
 returns-in-Ok-clause-damage g c =
     let m = c.args.self.now in
-    thinned-damage c.store_byte.result g.H.Host m c.open.new.self c.args.of c.in-Ok.s.0 c.store_byte.new.self.disk.rest (HasRoom m.parts (words_read c.store_byte.new.self) 27) c.in-Ok.ensures.sound c.in-Ok.ensures.thinned c.requires.may.names c.in-Ok.ensures.word c.store_byte.ensures.damage
+    thinned-damage c.store_byte.result g.H.Host m c.open.new.self c.args.of c.in-Ok.s.0 c.store_byte.new.self.pager.levels.disk.rest (HasRoom m.pager.levels.parts (words_read c.store_byte.new.self) 27) c.in-Ok.ensures.sound c.in-Ok.ensures.thinned c.requires.may.names c.in-Ok.ensures.word c.store_byte.ensures.damage
 
 pub returns-in-Ok-clause-minds : goal.returns-in-Ok-clause-minds
 returns-in-Ok-clause-minds g c =

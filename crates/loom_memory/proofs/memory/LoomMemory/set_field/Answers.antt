@@ -76,7 +76,7 @@ returns-in-Some-word_in_body-clause-minds g c =
     let m = c.args.self.now in
     let s = c.in-Some.s.0 in
     let n = name_at ((loom_told g.H.Host m).regs c.args.of) in
-    minds-wide g.H.Host None m c.replace_field.new.self (λ k. k ≡ ((core_of m.parts).entries s).name) (λ k. k ≡ n) (λ k is. is ∙ entry-named g.H.Host m m c.args.of s c.requires.fit.sound (quiet-thinned (loom_told g.H.Host m) (loom_told g.H.Host m) (quiet-same g.H.Host m) c.requires.fit.ready) c.requires.may.names c.in-Some.ensures.word) c.replace_field.ensures.minds
+    minds-wide g.H.Host None m c.replace_field.new.self (λ k. k ≡ ((core_of m.pager.levels.parts).entries s).name) (λ k. k ≡ n) (λ k is. is ∙ entry-named g.H.Host m m c.args.of s c.requires.fit.sound (quiet-thinned (loom_told g.H.Host m) (loom_told g.H.Host m) (quiet-same g.H.Host m) c.requires.fit.ready) c.requires.may.names c.in-Some.ensures.word) c.replace_field.ensures.minds
 
 pub returns-in-Some-word_in_body-clause-brings : goal.returns-in-Some-word_in_body-clause-brings
 returns-in-Some-word_in_body-clause-brings g c = brings-none c.args.self.now c.replace_field.new.self _ c.replace_field.ensures.resting.idle.fetches

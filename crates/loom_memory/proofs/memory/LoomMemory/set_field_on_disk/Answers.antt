@@ -49,7 +49,7 @@ returns-in-Ok-clause-cached g c = then-keeps c.store_field.result g.H.Host c.arg
 pub returns-in-Ok-clause-damage : goal.returns-in-Ok-clause-damage
 returns-in-Ok-clause-damage g c =
     let m = c.args.self.now in
-    thinned-damage c.store_field.result g.H.Host m c.open_with_room.new.self c.args.of c.in-Ok.s.0 c.store_field.new.self.disk.rest (HasRoom m.parts (words_read c.store_field.new.self) 27) c.in-Ok.ensures.sound c.in-Ok.ensures.thinned c.requires.may.names c.in-Ok.ensures.word c.store_field.ensures.damage
+    thinned-damage c.store_field.result g.H.Host m c.open_with_room.new.self c.args.of c.in-Ok.s.0 c.store_field.new.self.pager.levels.disk.rest (HasRoom m.pager.levels.parts (words_read c.store_field.new.self) 27) c.in-Ok.ensures.sound c.in-Ok.ensures.thinned c.requires.may.names c.in-Ok.ensures.word c.store_field.ensures.damage
 
 pub returns-in-Ok-clause-minds : goal.returns-in-Ok-clause-minds
 returns-in-Ok-clause-minds g c =

@@ -18,7 +18,7 @@ use Rattle.loom_memory.proofs.memory.LoomMemory.settle.Given as given
 pub count_anew-requires-clause-numbers : goal.count_anew-requires-clause-numbers
 count_anew-requires-clause-numbers g c =
     let m = c.args.self.now in
-    numbers-none m.ledger.base m.ledger.made m.ledger.held m.ledger.next (disk_room m.disk.rest) c.requires.fit.sound.over.based (c.is_settled.ensures.yes c.if-is_settled.true).0
+    numbers-none m.ledger.base m.ledger.made m.ledger.held m.ledger.next (disk_room m.pager.levels.disk.rest) c.requires.fit.sound.over.based (c.is_settled.ensures.yes c.if-is_settled.true).0
 
 -- ---- nothing had to be done
 

@@ -20,7 +20,7 @@ returns-in-Ok-clause-settled g c =
     settled-some (loom_told g.H.Host c.args.self.now) (loom_told g.H.Host c.thin_once.new.self) (loom_told g.H.Host c.count_anew.new.self) c.thin_once.new.self.ledger.held c.in-Ok.ensures.thinned c.count_anew.ensures.begun c.in-Ok.ensures.count c.in-Ok.ensures.again
 
 pub overflow_add-self : goal.overflow_add-self
-overflow_add-self g c = let most = room-most c.args.self.now.disk.rest in let roomy = c.requires.sound.over.roomy in omega (arith, most, roomy)
+overflow_add-self g c = let most = room-most c.args.self.now.pager.levels.disk.rest in let roomy = c.requires.sound.over.roomy in omega (arith, most, roomy)
 
 pub returns-in-Ok-clause-outside : goal.returns-in-Ok-clause-outside
 unfolding loom_outside
@@ -31,7 +31,7 @@ unfolding fetched
 returns-in-Ok-clause-fetches g c = ap (λ (k : Ledger). k.fetches) c.count_anew.ensures.ledger ∙ ap (λ (k : Ledger). k.fetches) c.in-Ok.ensures.ledger
 
 pub returns-in-Ok-clause-bodies : goal.returns-in-Ok-clause-bodies
-returns-in-Ok-clause-bodies g c = λ told. bodies-anew c.args.self.now.parts (loom_told g.H.Host c.thin_once.new.self) (loom_told g.H.Host c.count_anew.new.self) (Some c.thin_once.new.self.ledger.held) c.thin_once.new.self.parts c.count_anew.new.self.parts c.count_anew.ensures.begun c.count_anew.ensures.parts (c.in-Ok.ensures.bodies told)
+returns-in-Ok-clause-bodies g c = λ told. bodies-anew c.args.self.now.pager.levels.parts (loom_told g.H.Host c.thin_once.new.self) (loom_told g.H.Host c.count_anew.new.self) (Some c.thin_once.new.self.ledger.held) c.thin_once.new.self.pager.levels.parts c.count_anew.new.self.pager.levels.parts c.count_anew.ensures.begun c.count_anew.ensures.parts (c.in-Ok.ensures.bodies told)
 
 pub returns-in-Ok-clause-entries : goal.returns-in-Ok-clause-entries
 returns-in-Ok-clause-entries g c = let same = ap (λ (p : Parts). spare_of p) c.count_anew.ensures.parts in let less = c.in-Ok.ensures.entries in omega (arith, same, less)

@@ -16,7 +16,7 @@ use Rattle.loom_memory.proofs.memory.LoomMemory.settle_roomy.Goals as goal
 pub count_anew-requires-clause-numbers : goal.count_anew-requires-clause-numbers
 count_anew-requires-clause-numbers g c =
     let u = c.free_first.new.self in
-    numbers-none u.ledger.base u.ledger.made u.ledger.held u.ledger.next (disk_room u.disk.rest) c.in-Ok.ensures.sound.over.based (let less = c.in-Ok.ensures.less in let same = c.in-Ok.ensures.limit in let room = c.requires.room in omega (arith, less, same, room))
+    numbers-none u.ledger.base u.ledger.made u.ledger.held u.ledger.next (disk_room u.pager.levels.disk.rest) c.in-Ok.ensures.sound.over.based (let less = c.in-Ok.ensures.less in let same = c.in-Ok.ensures.limit in let room = c.requires.room in omega (arith, less, same, room))
 
 pub returns-in-Ok-clause-settled : goal.returns-in-Ok-clause-settled
 returns-in-Ok-clause-settled g c = settled-thin (loom_told g.H.Host c.args.self.now) (loom_told g.H.Host c.free_first.new.self) (loom_told g.H.Host c.count_anew.new.self) c.in-Ok.ensures.thinned c.count_anew.ensures.begun
@@ -26,7 +26,7 @@ unfolding fetched
 returns-in-Ok-clause-fetches g c = ap (λ (k : Ledger). k.fetches) c.count_anew.ensures.ledger ∙ ap (λ (k : Ledger). k.fetches) c.in-Ok.ensures.ledger
 
 pub returns-in-Ok-clause-bodies : goal.returns-in-Ok-clause-bodies
-returns-in-Ok-clause-bodies g c = λ told. bodies-anew c.args.self.now.parts (loom_told g.H.Host c.free_first.new.self) (loom_told g.H.Host c.count_anew.new.self) None c.free_first.new.self.parts c.count_anew.new.self.parts c.count_anew.ensures.begun c.count_anew.ensures.parts (c.in-Ok.ensures.bodies told)
+returns-in-Ok-clause-bodies g c = λ told. bodies-anew c.args.self.now.pager.levels.parts (loom_told g.H.Host c.free_first.new.self) (loom_told g.H.Host c.count_anew.new.self) None c.free_first.new.self.pager.levels.parts c.count_anew.new.self.pager.levels.parts c.count_anew.ensures.begun c.count_anew.ensures.parts (c.in-Ok.ensures.bodies told)
 
 pub returns-in-Ok-clause-entries : goal.returns-in-Ok-clause-entries
 returns-in-Ok-clause-entries g c = let same = ap (λ (p : Parts). spare_of p) c.count_anew.ensures.parts in let less = c.in-Ok.ensures.entries in omega (arith, same, less)

@@ -14,7 +14,7 @@ pub returns-in-Disk-clause-err : goal.returns-in-Disk-clause-err
 returns-in-Disk-clause-err g c =
     let m = c.args.self.now in
     fault-settling g.H.Host m c.room.new.self (loom_told g.H.Host c.refuse.new.self) c.in-Disk.f c.refusal_of-f.result c.refuse.result c.in-Err.ensures.ledger c.in-Err.ensures.work c.in-Err.ensures.limit
-    (subst (λ (z : RoomFault). OnDisk z (IsPurgeFault g.H.Host m.disk.host.now c.room.new.self.disk.host.now)) c.in-Disk.is c.in-Err.ensures.fault)
+    (subst (λ (z : RoomFault). OnDisk z (IsPurgeFault g.H.Host m.pager.levels.disk.host.now c.room.new.self.pager.levels.disk.host.now)) c.in-Disk.is c.in-Err.ensures.fault)
     c.refusal_of-f.ensures c.refuse.ensures.told c.refuse.ensures.result c.refuse.ensures.later
 
 pub returns-in-Ok-clause-spare : goal.returns-in-Ok-clause-spare
@@ -24,7 +24,7 @@ pub returns-in-Short-clause-spare : goal.returns-in-Short-clause-spare
 returns-in-Short-clause-spare g c =
     let m = c.args.self.now in
     let n = c.room.new.self in
-    inr (subst (λ (z : Pinned). IsBare z.a z.b z.d (core_of n.parts)) (sym c.in-Err.ensures.pins) (subst (λ (z : RoomFault). OnShort z (IsShort n.parts m.pinned.a m.pinned.b m.pinned.d 0 128)) c.in-Short.is c.in-Err.ensures.short).bare)
+    inr (subst (λ (z : Pinned). IsBare z.a z.b z.d (core_of n.pager.levels.parts)) (sym c.in-Err.ensures.pins) (subst (λ (z : RoomFault). OnShort z (IsShort n.pager.levels.parts m.pager.pinned.a m.pager.pinned.b m.pager.pinned.d 0 128)) c.in-Short.is c.in-Err.ensures.short).bare)
 
 pub returns-then-has_room-clause-spare : goal.returns-then-has_room-clause-spare
 returns-then-has_room-clause-spare g c = inl (c.has_room.ensures.has c.if-has_room.true).1

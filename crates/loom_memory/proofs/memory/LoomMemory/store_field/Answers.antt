@@ -20,20 +20,20 @@ use Rattle.loom_memory.proofs.memory.LoomMemory.store_field.Given as given
 
 pub used_entry-requires : goal.used_entry-requires
 unfolding core_of
-used_entry-requires g c = placed-used ((core_of c.args.self.now.parts).entries c.args.s.0).state c.requires.there.0 c.requires.there.1
+used_entry-requires g c = placed-used ((core_of c.args.self.now.pager.levels.parts).entries c.args.s.0).state c.requires.there.0 c.requires.there.1
 
 none-there : (g : given.Over) (c : goal.After-refuse g) → IsTrue (loom_told g.H.Host c.args.self.now).tells → ⊥
 unfolding loom_told
 none-there g c = λ told.
     let m = c.args.self.now in
-    let past : length (pointers ((core_of m.parts).entries c.args.s.0).kind ((core_of m.parts).chunks c.place_of_body-at.result.place).words) ≤ c.args.i = let all = c.field_total.ensures in let low = c.if-i-field_total.true in omega arith in
-    field-none (g.H.Host.tells Work) (core_of m.parts) (disk_of g.H.Host m.disk.host.now m.disk.rest) m.ledger.next c.args.s.0 c.place_of_body-at.result.place 0 c.args.of c.args.i (loom_told g.H.Host m).regs told c.requires.sound.kept.parts.core c.place_of_body-at.ensures past (ap (meant (core_of m.parts).entries [] 0) (sym c.requires.word)) (c.requires.may told)
+    let past : length (pointers ((core_of m.pager.levels.parts).entries c.args.s.0).kind ((core_of m.pager.levels.parts).chunks c.place_of_body-at.result.place).words) ≤ c.args.i = let all = c.field_total.ensures in let low = c.if-i-field_total.true in omega arith in
+    field-none (g.H.Host.tells Work) (core_of m.pager.levels.parts) (disk_of g.H.Host m.pager.levels.disk.host.now m.pager.levels.disk.rest) m.ledger.next c.args.s.0 c.place_of_body-at.result.place 0 c.args.of c.args.i (loom_told g.H.Host m).regs told c.requires.sound.kept.parts.core c.place_of_body-at.ensures past (ap (meant (core_of m.pager.levels.parts).entries [] 0) (sym c.requires.word)) (c.requires.may told)
 
 pub returns-then-i-field_total-clause-err : goal.returns-then-i-field_total-clause-err
 returns-then-i-field_total-clause-err g c = let b = told-bounds g.H.Host c.args.self.now in damaged-refused (loom_told g.H.Host c.args.self.now) (loom_told g.H.Host c.refuse.new.self) (SetField c.args.of c.args.i c.args.from) _ _ c.refuse.result c.refuse.ensures.told c.refuse.ensures.result c.requires.ready refl tt c.refuse.ensures.later (none-there g c) b.0 b.1
 
 pub field_word-w-requires-clause-there : goal.field_word-w-requires-clause-there
-field_word-w-requires-clause-there g c = at-field (core_of c.args.self.now.parts) c.args.s.0 c.place_of_body-at.result.place c.args.i c.place_of_body-at.ensures (let all = c.field_total.ensures in let low = c.if-i-field_total.false in omega arith)
+field_word-w-requires-clause-there g c = at-field (core_of c.args.self.now.pager.levels.parts) c.args.s.0 c.place_of_body-at.result.place c.args.i c.place_of_body-at.ensures (let all = c.field_total.ensures in let low = c.if-i-field_total.false in omega arith)
 
 -- ---- over a lambda
 
@@ -44,7 +44,7 @@ pub exchange_field-requires-clause-gone : goal.exchange_field-requires-clause-go
 exchange_field-requires-clause-gone g c = c.in-Ok.ensures.mark ∙ c.requires.gone
 
 pub exchange_field-requires-clause-before : goal.exchange_field-requires-clause-before
-exchange_field-requires-clause-before g c = λ told. subst (λ (t : Told). brought t.heap t.regs (Field 0 c.args.of c.args.i) ≡ Some (meant (core_of c.lambda_word.new.self.parts).entries [] 0 c.in-Ok.old)) (sym c.in-Ok.ensures.quiet.same) (c.in-Ok.ensures.means told)
+exchange_field-requires-clause-before g c = λ told. subst (λ (t : Told). brought t.heap t.regs (Field 0 c.args.of c.args.i) ≡ Some (meant (core_of c.lambda_word.new.self.pager.levels.parts).entries [] 0 c.in-Ok.old)) (sym c.in-Ok.ensures.quiet.same) (c.in-Ok.ensures.means told)
 
 pub returns-in-Ok-clause-stored : goal.returns-in-Ok-clause-stored
 returns-in-Ok-clause-stored g c = stored-quiet (loom_told g.H.Host c.args.self.now) (loom_told g.H.Host c.lambda_word.new.self) (loom_told g.H.Host c.exchange_field.new.self) (SetField c.args.of c.args.i c.args.from) c.in-Ok.ensures.quiet c.exchange_field.ensures.stored
@@ -58,13 +58,13 @@ pub exchange_field-requires-2-clause-there : goal.exchange_field-requires-2-clau
 exchange_field-requires-2-clause-there g c = (c.field_word-w.result, c.field_word-w.ensures)
 
 pub exchange_field-requires-2-clause-used : goal.exchange_field-requires-2-clause-used
-exchange_field-requires-2-clause-used g c = λ is. word-live (core_of c.args.self.now.parts) c.args.s.0 c.place_of_body-at.result.place c.args.i c.field_word-w.result c.requires.sound.kept.parts.core c.field_word-w.ensures is
+exchange_field-requires-2-clause-used g c = λ is. word-live (core_of c.args.self.now.pager.levels.parts) c.args.s.0 c.place_of_body-at.result.place c.args.i c.field_word-w.result c.requires.sound.kept.parts.core c.field_word-w.ensures is
 
 pub exchange_field-requires-2-clause-before : goal.exchange_field-requires-2-clause-before
 unfolding loom_told
 exchange_field-requires-2-clause-before g c = λ told.
     let m = c.args.self.now in
-    field-told (g.H.Host.tells Work) (core_of m.parts) (disk_of g.H.Host m.disk.host.now m.disk.rest) m.ledger.next c.args.s.0 c.place_of_body-at.result.place 0 c.args.of c.args.i c.field_word-w.result (loom_told g.H.Host m).regs told c.requires.sound.kept.parts.core c.field_word-w.ensures c.if-w-eq0.false (ap (meant (core_of m.parts).entries [] 0) (sym c.requires.word))
+    field-told (g.H.Host.tells Work) (core_of m.pager.levels.parts) (disk_of g.H.Host m.pager.levels.disk.host.now m.pager.levels.disk.rest) m.ledger.next c.args.s.0 c.place_of_body-at.result.place 0 c.args.of c.args.i c.field_word-w.result (loom_told g.H.Host m).regs told c.requires.sound.kept.parts.core c.field_word-w.ensures c.if-w-eq0.false (ap (meant (core_of m.pager.levels.parts).entries [] 0) (sym c.requires.word))
 
 -- ---- what was touched
 
@@ -86,10 +86,10 @@ returns-clause-cached g c = c.exchange_field-2.ensures.cached
 
 pub returns-then-i-field_total-clause-damage : goal.returns-then-i-field_total-clause-damage
 unfolding core_of
-returns-then-i-field_total-clause-damage g c = nowhere-damage c.refuse.new.self.disk.rest ((core_of c.args.self.now.parts).entries c.args.s.0).name c.refuse.result (c.refuse.ensures.result ∙ ap (Damaged NOWHERE) (c.get-name.ensures.value ∙ ap (λ (e : Entry). e.name) c.used_entry.ensures))
+returns-then-i-field_total-clause-damage g c = nowhere-damage c.refuse.new.self.pager.levels.disk.rest ((core_of c.args.self.now.pager.levels.parts).entries c.args.s.0).name c.refuse.result (c.refuse.ensures.result ∙ ap (Damaged NOWHERE) (c.get-name.ensures.value ∙ ap (λ (e : Entry). e.name) c.used_entry.ensures))
 
 pub returns-in-Ok-clause-none : goal.returns-in-Ok-clause-none
-returns-in-Ok-clause-none g c = remains-trans (core_of c.exchange_field.new.self.parts) (core_of c.lambda_word.new.self.parts) (core_of c.args.self.now.parts) c.exchange_field.ensures.none c.in-Ok.ensures.peek.none
+returns-in-Ok-clause-none g c = remains-trans (core_of c.exchange_field.new.self.pager.levels.parts) (core_of c.lambda_word.new.self.pager.levels.parts) (core_of c.args.self.now.pager.levels.parts) c.exchange_field.ensures.none c.in-Ok.ensures.peek.none
 
 pub returns-in-Ok-clause-brings : goal.returns-in-Ok-clause-brings
 returns-in-Ok-clause-brings g c = c.exchange_field.ensures.resting.idle.fetches ∙ c.lambda_word.ensures.brings

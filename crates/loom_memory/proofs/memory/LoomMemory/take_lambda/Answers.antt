@@ -16,7 +16,7 @@ unfolding loom_told
 returns-in-Ok-clause-taken g c =
     let n = c.lambda_word.new.self in
     let b = told-bounds g.H.Host n in
-    taken-quiet (loom_told g.H.Host c.args.self.now) (loom_told g.H.Host n) (loom_told g.H.Host c.put_word.new.self) c.args.to c.args.of c.args.i (meant (core_of n.parts).entries [] 0 c.in-Ok.w) b.0 b.1 c.in-Ok.ensures.quiet c.put_word.ensures.told (λ told. c.in-Ok.ensures.means told)
+    taken-quiet (loom_told g.H.Host c.args.self.now) (loom_told g.H.Host n) (loom_told g.H.Host c.put_word.new.self) c.args.to c.args.of c.args.i (meant (core_of n.pager.levels.parts).entries [] 0 c.in-Ok.w) b.0 b.1 c.in-Ok.ensures.quiet c.put_word.ensures.told (λ told. c.in-Ok.ensures.means told)
 
 pub returns-in-Err-clause-err : goal.returns-in-Err-clause-err
 returns-in-Err-clause-err g c = c.in-Err.ensures.err (Field c.args.to c.args.of c.args.i) tt refl

@@ -29,7 +29,7 @@ pub returns-then-self-clause-lasts : goal.returns-then-self-clause-lasts
 returns-then-self-clause-lasts g c = λ on. (refl, refl)
 
 pub returns-then-self-clause-bodies : goal.returns-then-self-clause-bodies
-returns-then-self-clause-bodies g c = λ told. bodies-same c.args.self.now.parts c.args.self.now.parts (loom_told g.H.Host c.args.self.now).heap refl
+returns-then-self-clause-bodies g c = λ told. bodies-same c.args.self.now.pager.levels.parts c.args.self.now.pager.levels.parts (loom_told g.H.Host c.args.self.now).heap refl
 
 pub returns-then-self-clause-minds : goal.returns-then-self-clause-minds
 returns-then-self-clause-minds g c = minds-refl g.H.Host c.args.self.now (λ k. ⊥) c.requires.sound

@@ -24,15 +24,15 @@ unfolding loom_told core_of
 returns-then-is_name-clause-value g c =
     let m = c.args.self.now in
     c.from.ensures.0 ∙ ap Ref (ap (λ (e : Entry). e.name) c.used_entry.ensures)
-    ∙ sym (ap (meant (core_of m.parts).entries [] 0) (sym c.word_of-w.ensures.word) ∙ meant-short (core_of m.parts).entries [] 0 c.word_of-w.result (sym c.is_name.ensures ∙ c.if-is_name.true))
+    ∙ sym (ap (meant (core_of m.pager.levels.parts).entries [] 0) (sym c.word_of-w.ensures.word) ∙ meant-short (core_of m.pager.levels.parts).entries [] 0 c.word_of-w.result (sym c.is_name.ensures ∙ c.if-is_name.true))
 
 pub returns-clause-value : goal.returns-clause-value
 unfolding loom_told
 returns-clause-value g c =
     let m = c.args.self.now in
     ap Int (small_number c.int_short.result (small-of g c)) ∙ ap Int c.int_short.ensures
-    ∙ sym (ap (meant (core_of m.parts).entries [] 0) (sym c.word_of-w.ensures.word)
-    ∙ number-means (core_of m.parts).entries c.word_of-w.result (int_of_short c.word_of-w.result) (odd-else c.word_of-w.result c.word_of-w.ensures.some (sym c.is_name.ensures ∙ c.if-is_name.false)) refl)
+    ∙ sym (ap (meant (core_of m.pager.levels.parts).entries [] 0) (sym c.word_of-w.ensures.word)
+    ∙ number-means (core_of m.pager.levels.parts).entries c.word_of-w.result (int_of_short c.word_of-w.result) (odd-else c.word_of-w.result c.word_of-w.ensures.some (sym c.is_name.ensures ∙ c.if-is_name.false)) refl)
 
 pub returns-then-is_name-clause-range : goal.returns-then-is_name-clause-range
 returns-then-is_name-clause-range g c = c.from.ensures.1

@@ -18,6 +18,7 @@ use Rattle.loom_memory.proofs.CacheLaws.{cache-same}
 use Rattle.loom_memory.proofs.GentleLaws.{steady-is, steady-refl}
 use Rattle.loom_memory.proofs.ExactLaws.{exact-leaf, name-value}
 use Rattle.loom_memory.proofs.DeadLaws.{thin-told}
+use Rattle.loom_memory.proofs.WholeLaws.{ref-whole}
 use Rattle.loom_memory.proofs.memory.LoomMemory.word_for.Goals as goal
 
 pub returns-in-Some-clause-means : goal.returns-in-Some-clause-means
@@ -25,7 +26,7 @@ returns-in-Some-clause-means g c =
     let value = int_is c.args.v.now c.in-Some.number (sym c.in-Some.ensures) in
     let range : IsSmallInteger c.in-Some.number = subst (λ (v : Value). IsValue v) value c.requires.value in
     let is = small_number c.in-Some.number range in
-    meant-odd (core_of c.args.self.now.parts).entries [] 0 c.short_int.result c.short_int.ensures.odd ∙ ap Int (c.short_int.ensures.value (subst IsSmallInteger (sym is) range) ∙ is) ∙ sym value
+    meant-odd (core_of c.args.self.now.pager.levels.parts).entries [] 0 c.short_int.result c.short_int.ensures.odd ∙ ap Int (c.short_int.ensures.value (subst IsSmallInteger (sym is) range) ∙ is) ∙ sym value
 
 pub returns-in-Some-find_or_leaf-clause-told : goal.returns-in-Some-find_or_leaf-clause-told
 unfolding loom_told
@@ -34,9 +35,9 @@ returns-in-Some-find_or_leaf-clause-told g c =
     let step = c.in-Some-find_or_leaf.ensures.step in
     let core = c.requires.sound.kept.parts.core in
     let now = c.in-Some-find_or_leaf.ensures.parts.core in
-    told-still g.H.Host m.disk.host.now m.disk.rest (core_of m.parts) (core_of c.find_or_leaf.new.p) m.regs m.pinned m.ledger (kept-rooted m.parts m.regs m.pinned m.ledger c.requires.sound.kept) now c.requires.sound.kept.cached
-    (leaf-calm m.pinned (core_of m.parts) (core_of c.find_or_leaf.new.p) core now step) (leaf-keeps (core_of m.parts) (core_of c.find_or_leaf.new.p) core now step)
-    (λ told. (step.stays (disk_of g.H.Host m.disk.host.now m.disk.rest) (c.requires.sound.over.backed told)).held)
+    told-still g.H.Host m.pager.levels.disk.host.now m.pager.levels.disk.rest (core_of m.pager.levels.parts) (core_of c.find_or_leaf.new.p) m.regs m.pager.pinned m.ledger (kept-rooted m.pager.levels.parts m.regs m.pager.pinned m.ledger c.requires.sound.kept) now c.requires.sound.kept.cached
+    (leaf-calm m.pager.pinned (core_of m.pager.levels.parts) (core_of c.find_or_leaf.new.p) core now step) (leaf-keeps (core_of m.pager.levels.parts) (core_of c.find_or_leaf.new.p) core now step)
+    (λ told. (step.stays (disk_of g.H.Host m.pager.levels.disk.host.now m.pager.levels.disk.rest) (c.requires.sound.over.backed told)).held)
 
 pub returns-in-Some-find_or_leaf-clause-sound : goal.returns-in-Some-find_or_leaf-clause-sound
 unfolding loom_told
@@ -44,10 +45,10 @@ returns-in-Some-find_or_leaf-clause-sound g c =
     let m = c.args.self.now in
     let step = c.in-Some-find_or_leaf.ensures.step in
     record {
-      kept = calm-kept m.parts c.find_or_leaf.new.p m.regs m.pinned m.ledger c.requires.sound.kept (leaf-calm m.pinned (core_of m.parts) (core_of c.find_or_leaf.new.p) c.requires.sound.kept.parts.core c.in-Some-find_or_leaf.ensures.parts.core step) c.in-Some-find_or_leaf.ensures.parts (ref-tight (core_of m.parts) (core_of c.find_or_leaf.new.p) step.step c.requires.sound.kept.tight) (ap size_of c.in-Some-find_or_leaf.ensures.segment);
-      over = over-then g.H.Host m.disk.host.now m.disk.rest (core_of m.parts) (core_of c.find_or_leaf.new.p) m.ledger step.stays step.step c.requires.sound.over;
+      kept = calm-kept m.pager.levels.parts c.find_or_leaf.new.p m.regs m.pager.pinned m.ledger c.requires.sound.kept (leaf-calm m.pager.pinned (core_of m.pager.levels.parts) (core_of c.find_or_leaf.new.p) c.requires.sound.kept.parts.core c.in-Some-find_or_leaf.ensures.parts.core step) c.in-Some-find_or_leaf.ensures.parts (ref-tight (core_of m.pager.levels.parts) (core_of c.find_or_leaf.new.p) step.step c.requires.sound.kept.tight) (ap size_of c.in-Some-find_or_leaf.ensures.segment);
+      over = over-then g.H.Host m.pager.levels.disk.host.now m.pager.levels.disk.rest (core_of m.pager.levels.parts) (core_of c.find_or_leaf.new.p) m.ledger step.stays step.step c.requires.sound.over;
       soon = c.requires.sound.soon;
-      exact = exact-leaf g.H.Host (Some c.in-Some-find_or_leaf.s) m.parts c.find_or_leaf.new.p m.disk.host.now m.disk.rest m.ledger.next c.in-Some-name.name c.requires.sound.exact c.in-Some-find_or_leaf.ensures.parts step c.in-Some-find_or_leaf.ensures.found c.in-Some-find_or_leaf.ensures.only tt
+      exact = exact-leaf g.H.Host (Some c.in-Some-find_or_leaf.s) m.pager.levels.parts c.find_or_leaf.new.p m.pager.levels.disk.host.now m.pager.levels.disk.rest m.ledger.next c.in-Some-name.name c.requires.sound.exact c.in-Some-find_or_leaf.ensures.parts step c.in-Some-find_or_leaf.ensures.found c.in-Some-find_or_leaf.ensures.only tt
           (λ told. c.requires.named told c.in-Some-name.name (name-value c.args.v.now c.in-Some-name.name (sym c.in-Some-name.ensures)));
       thin = thin-told g.H.Host c.args.self.now _ c.requires.sound.thin (λ on. on) (returns-in-Some-find_or_leaf-clause-told g c);
     }
@@ -72,4 +73,7 @@ returns-in-Some-find_or_leaf-clause-steady g c =
     let step = c.in-Some-find_or_leaf.ensures.step in
     let core = c.requires.sound.kept.parts.core in
     let now = c.in-Some-find_or_leaf.ensures.parts.core in
-    steady-is g.H.Host m _ step.step (cache-same (core_of m.parts) (core_of c.find_or_leaf.new.p) (found m.ledger.rows) m.ledger.mark m.ledger.begun core now (leaf-keeps (core_of m.parts) (core_of c.find_or_leaf.new.p) core now step) c.requires.sound.kept.cached) refl refl refl
+    steady-is g.H.Host m _ step.step (cache-same (core_of m.pager.levels.parts) (core_of c.find_or_leaf.new.p) (found m.ledger.rows) m.ledger.mark m.ledger.begun core now (leaf-keeps (core_of m.pager.levels.parts) (core_of c.find_or_leaf.new.p) core now step) c.requires.sound.kept.cached) refl refl refl
+
+pub invariant_of-levels : goal.invariant_of-levels
+invariant_of-levels g c = let l = c.args.self.now.pager.levels in record { whole = ref-whole l.parts c.find_or_leaf.new.p l.whole c.find_or_leaf.ensures.parts c.find_or_leaf.ensures.step.step c.find_or_leaf.ensures.step.others }

@@ -23,7 +23,7 @@ returns-clause-sound g c = record {
   kept = c.requires.sound.kept;
   over = put-sound g.H.Host c.args.self.now c.write_to.new.self.host.now c.write_to.new.self.rest c.requires.sound c.write_to.ensures.rest c.write_to.ensures.work (λ told. (c.write_to.ensures.keeps c.requires.sound.over.stands told).stands told);
   soon = c.requires.sound.soon;
-  exact = exact-work g.H.Host c.args.self.now.parts c.args.self.now.disk.host.now c.write_to.new.self.host.now c.args.self.now.disk.rest c.write_to.new.self.rest c.args.self.now.ledger.next c.requires.sound.exact c.write_to.ensures.rest c.write_to.ensures.work;
+  exact = exact-work g.H.Host c.args.self.now.pager.levels.parts c.args.self.now.pager.levels.disk.host.now c.write_to.new.self.host.now c.args.self.now.pager.levels.disk.rest c.write_to.new.self.rest c.args.self.now.ledger.next c.requires.sound.exact c.write_to.ensures.rest c.write_to.ensures.work;
   thin = thin-of g.H.Host c.args.self.now _ c.requires.sound.thin (λ on. on) (ap (λ (t : Told). t.heap) (returns-clause-told g c)) (ap (λ (t : Told). t.regs) (returns-clause-told g c)) (ap (λ (t : Told). t.slots) (returns-clause-told g c));
 }
 
@@ -31,32 +31,32 @@ pub returns-clause-put : goal.returns-clause-put
 unfolding loom_outside
 returns-clause-put g c = λ told.
     let m = c.args.self.now in
-    let old = ap (λ (o : Others). o.role) (lent-others (g.H.Host.tells Work) c.args.role (g.H.Host.roles m.disk.host.now c.args.role) (g.H.Host.faults m.disk.host.now c.args.role) c.requires.role) in
+    let old = ap (λ (o : Others). o.role) (lent-others (g.H.Host.tells Work) c.args.role (g.H.Host.roles m.pager.levels.disk.host.now c.args.role) (g.H.Host.faults m.pager.levels.disk.host.now c.args.role) c.requires.role) in
     let new = ap (λ (o : Others). o.role) (lent-others (g.H.Host.tells Work) c.args.role (g.H.Host.roles c.write_to.new.self.host.now c.args.role) (g.H.Host.faults c.write_to.new.self.host.now c.args.role) c.requires.role) in
-    subst (λ (s : RoleState). OnOk c.write_to.result (s ≡ puts c.args.buf.now (others_of (g.H.Host.tells Work) c.args.role (g.H.Host.roles m.disk.host.now c.args.role) (g.H.Host.faults m.disk.host.now c.args.role)).role)) (sym new)
+    subst (λ (s : RoleState). OnOk c.write_to.result (s ≡ puts c.args.buf.now (others_of (g.H.Host.tells Work) c.args.role (g.H.Host.roles m.pager.levels.disk.host.now c.args.role) (g.H.Host.faults m.pager.levels.disk.host.now c.args.role)).role)) (sym new)
     (subst (λ (s : RoleState). OnOk c.write_to.result (g.H.Host.roles c.write_to.new.self.host.now c.args.role ≡ puts c.args.buf.now s)) (sym old) (c.write_to.ensures.put told))
 
 pub returns-clause-failed : goal.returns-clause-failed
 unfolding loom_outside
 returns-clause-failed g c = λ told.
     let m = c.args.self.now in
-    let old = ap (λ (o : Others). o.role) (lent-others (g.H.Host.tells Work) c.args.role (g.H.Host.roles m.disk.host.now c.args.role) (g.H.Host.faults m.disk.host.now c.args.role) c.requires.role) in
+    let old = ap (λ (o : Others). o.role) (lent-others (g.H.Host.tells Work) c.args.role (g.H.Host.roles m.pager.levels.disk.host.now c.args.role) (g.H.Host.faults m.pager.levels.disk.host.now c.args.role) c.requires.role) in
     let new = ap (λ (o : Others). o.role) (lent-others (g.H.Host.tells Work) c.args.role (g.H.Host.roles c.write_to.new.self.host.now c.args.role) (g.H.Host.faults c.write_to.new.self.host.now c.args.role) c.requires.role) in
-    subst (λ (s : RoleState). OnErr c.write_to.result (PutPrefix c.args.buf.now (others_of (g.H.Host.tells Work) c.args.role (g.H.Host.roles m.disk.host.now c.args.role) (g.H.Host.faults m.disk.host.now c.args.role)).role s)) (sym new)
+    subst (λ (s : RoleState). OnErr c.write_to.result (PutPrefix c.args.buf.now (others_of (g.H.Host.tells Work) c.args.role (g.H.Host.roles m.pager.levels.disk.host.now c.args.role) (g.H.Host.faults m.pager.levels.disk.host.now c.args.role)).role s)) (sym new)
     (subst (λ (s : RoleState). OnErr c.write_to.result (PutPrefix c.args.buf.now s (g.H.Host.roles c.write_to.new.self.host.now c.args.role))) (sym old) (c.write_to.ensures.failed told))
 
 pub returns-clause-cause : goal.returns-clause-cause
 unfolding loom_outside
 returns-clause-cause g c =
     let m = c.args.self.now in
-    let old = ap (λ (o : Others). o.faults) (lent-others (g.H.Host.tells Work) c.args.role (g.H.Host.roles m.disk.host.now c.args.role) (g.H.Host.faults m.disk.host.now c.args.role) c.requires.role) in
+    let old = ap (λ (o : Others). o.faults) (lent-others (g.H.Host.tells Work) c.args.role (g.H.Host.roles m.pager.levels.disk.host.now c.args.role) (g.H.Host.faults m.pager.levels.disk.host.now c.args.role) c.requires.role) in
     let new = ap (λ (o : Others). o.faults) (lent-others (g.H.Host.tells Work) c.args.role (g.H.Host.roles c.write_to.new.self.host.now c.args.role) (g.H.Host.faults c.write_to.new.self.host.now c.args.role) c.requires.role) in
-    subst (λ n. HasCause (others_of (g.H.Host.tells Work) c.args.role (g.H.Host.roles m.disk.host.now c.args.role) (g.H.Host.faults m.disk.host.now c.args.role)).faults n c.write_to.result) (sym new)
+    subst (λ n. HasCause (others_of (g.H.Host.tells Work) c.args.role (g.H.Host.roles m.pager.levels.disk.host.now c.args.role) (g.H.Host.faults m.pager.levels.disk.host.now c.args.role)).faults n c.write_to.result) (sym new)
     (subst (λ n. HasCause n (g.H.Host.faults c.write_to.new.self.host.now c.args.role) c.write_to.result) (sym old) c.write_to.ensures.cause)
 
 pub returns-clause-others : goal.returns-clause-others
 unfolding loom_outside
-returns-clause-others g c = others-lent g.H.Host c.args.self.now.disk.host.now c.write_to.new.self.host.now c.args.role c.write_to.ensures.others c.write_to.ensures.other_faults
+returns-clause-others g c = others-lent g.H.Host c.args.self.now.pager.levels.disk.host.now c.write_to.new.self.host.now c.args.role c.write_to.ensures.others c.write_to.ensures.other_faults
 
 pub returns-clause-steady : goal.returns-clause-steady
 unfolding is_resident words_resident fetched
