@@ -16,19 +16,19 @@ use Rattle.delta_counts.specs.At.{IsStoredIn}
 use Rattle.delta_counts.proofs.StoredLaws.{records-at, counts-at}
 use Rattle.purger.specs.Closing.{HasKept}
 use Rattle.loom_memory.specs.declared.memory.LoomMemory.{LoomMemory}
-use Rattle.loom_memory.specs.Memory.{loom_told, IsSound}
+use Rattle.loom_memory.specs.Memory.{loom_now, loom_parts, loom_rest, loom_told, IsSound}
 use Rattle.loom_memory.proofs.ExactLaws.{levels-told}
 use Rattle.image_memory.specs.Image.{HasEnded}
 use Rattle.image_memory.proofs.ImageLaws.{same-work}
 
 -- ---- a memory ends
 
-pub ended-is : {H : Type 0} (host : Ghosts H) (m : LoomMemory H) (now : H) (rest : DiskRest) (next : ℕ) → IsTrue (host.tells Work) → IsSound host m → HasKept host now rest (loom_told host m).heap
+pub ended-is : {H : Type 0} (host : Ghosts H) (m : LoomMemory H host) (now : H) (rest : DiskRest) (next : ℕ) → IsTrue (host.tells Work) → IsSound host m → HasKept host now rest (loom_told host m).heap
     → next ≡ m.ledger.next → HasEnded host now rest next (loom_told host m).heap
 unfolding loom_told
 ended-is host m now rest next told sound left same =
     let e = sound.exact told in
-    let heap = levels-told host m.parts m.disk.host.now m.disk.rest e.0 m.ledger.next e.1 e.3 told in
+    let heap = levels-told host (loom_parts m) (loom_now m) (loom_rest m) e.0 m.ledger.next e.1 e.3 told in
     record {
       left = left;
       bounded = subst IsBounded (sym heap) (bounded (heap_of e.0) e.2.heap);

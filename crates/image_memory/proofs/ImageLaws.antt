@@ -43,7 +43,7 @@ use Rattle.object_memory.specs.Contract.{ForBounds}
 use Rattle.object_memory.specs.Told.{Bounds, Told}
 use Rattle.loom_memory.specs.Beginning.{HasLoaded, IsFirst, IsLoaded}
 use Rattle.loom_memory.specs.declared.memory.LoomMemory.{LoomMemory}
-use Rattle.loom_memory.specs.Memory.{loom_told}
+use Rattle.loom_memory.specs.Memory.{loom_now, loom_told}
 use Rattle.image_memory.specs.Image.{BeginsWith, HasImage, IsStateOf, IsTextOf}
 
 -- ---- the heap of an image
@@ -180,7 +180,7 @@ begins-with host now rest x t core entries room work said told is first heap =
       lives = λ root. all-kept (heap_on host now rest x.next) root h.is;
     }
 
-pub said-before : {H : Type 0} (host : Ghosts H) (now : H) (m : LoomMemory H) → m.disk.host.now ≡ now → (loom_told host m).transcript ≡ (host.roles now Transcript).put
+pub said-before : {H : Type 0} (host : Ghosts H) (now : H) (m : LoomMemory H host) → (loom_now m) ≡ now → (loom_told host m).transcript ≡ (host.roles now Transcript).put
 unfolding loom_told
 said-before {H} host now m same = ap (λ (n : H). (host.roles n Transcript).put) same
 

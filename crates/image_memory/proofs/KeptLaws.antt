@@ -33,7 +33,7 @@ use Rattle.counted_core.specs.Counted.{IsHeld}
 use Rattle.counted_core.specs.Levels.{Stored, record_in}
 use Rattle.delta_counts.proofs.StoredLaws.{object-at}
 use Rattle.loom_memory.specs.declared.memory.LoomMemory.{LoomMemory}
-use Rattle.loom_memory.specs.Memory.{loom_told, IsSound}
+use Rattle.loom_memory.specs.Memory.{loom_now, loom_parts, loom_rest, loom_told, IsSound}
 use Rattle.loom_memory.proofs.AddLaws.{room-most}
 use Rattle.loom_memory.proofs.ExactLaws.{levels-told}
 use Rattle.image_memory.specs.Image.{HasEnded}
@@ -177,11 +177,11 @@ module _ {H : Type 0} (host : Ghosts H) (now : H) (rest : DiskRest) (next : ℕ)
 
 -- ---- of a memory
 
-pub image-kept : {H : Type 0} (host : Ghosts H) (m : LoomMemory H) (now : H) (rest : DiskRest) (next : ℕ) → IsTrue (host.tells Work) → IsSound host m → HasEnded host now rest next (loom_told host m).heap
+pub image-kept : {H : Type 0} (host : Ghosts H) (m : LoomMemory H host) (now : H) (rest : DiskRest) (next : ℕ) → IsTrue (host.tells Work) → IsSound host m → HasEnded host now rest next (loom_told host m).heap
     → next < 2 ^ 32 → IsImageHeap (kept (loom_told host m).heap no_roots)
 unfolding loom_told
 image-kept host m now rest next told sound x high =
     let e = sound.exact told in
-    let heap = levels-told host m.parts m.disk.host.now m.disk.rest e.0 m.ledger.next e.1 e.3 told in
+    let heap = levels-told host (loom_parts m) (loom_now m) (loom_rest m) e.0 m.ledger.next e.1 e.3 told in
     let named : next ≡ m.ledger.next = sym x.named ∙ ap (λ (h : Heap). h.next) heap ∙ e.3 in
     ended-image host now rest next (loom_told host m).heap x (subst IsHeld (sym heap) e.2.heap) (ap (λ (n : ℕ). n % 2) named ∙ sound.over.based.even) high

@@ -5,7 +5,7 @@ ghost use Rattle.disk_objects.specs.Disk.{disk_held, disk_room};
 ghost use Rattle.image_reader.specs.Loaded.{heap_on};
 ghost use Rattle.object_memory.specs.Told.{IsReady};
 ghost use Rattle.loom_memory.specs.Beginning.{HasEmptyCore, IsFirst};
-ghost use Rattle.loom_memory.specs.Memory.{loom_told, loom_lender, IsSound};
+ghost use Rattle.loom_memory.specs.Memory.{loom_lender, loom_now, loom_told, IsSound};
 ghost use Rattle.loom_memory.specs.Residents.{is_resident, fetched};
 ghost use Rattle.image_memory.specs.Image.{BeginsWith, HasImage};
 
@@ -30,7 +30,7 @@ pub fn begin_memory<'h, H: Host>(
     ensures transcript { (loom_told H.Host result).transcript ≡ (H.roles disk.entry.host.now Transcript).put }
     ensures sound { IsSound H.Host result }
     ensures ready { IsReady (loom_told H.Host result) }
-    ensures now { result.disk.host.now ≡ disk.entry.host.now }
+    ensures now { loom_now result ≡ disk.entry.host.now }
     ensures lender { loom_lender result ≡ disk.entry.host.ghost_name }
     ensures none { (fetched result ≡ 0) × ((k : ℕ) → is_resident result k ≡ false) }
 {

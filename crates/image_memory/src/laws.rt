@@ -52,7 +52,7 @@ pub fn an_image_is_kept()
 
 /// A memory that was wound up has ended over its disk, with the heap that was told before.
 pub fn a_memory_ends<H: Host>()
-    ensures { (m : Memory H) (now : H) (rest : DiskRest) (next : ℕ) → IsTrue (H.tells Work) → IsSound H.Host m
+    ensures { (m : Memory H H.Host) (now : H) (rest : DiskRest) (next : ℕ) → IsTrue (H.tells Work) → IsSound H.Host m
         → HasKept H.Host now rest (loom_told H.Host m).heap → next ≡ m.ledger.next → HasEnded H.Host now rest next (loom_told H.Host m).heap }
 {}
 
@@ -66,7 +66,7 @@ pub fn what_is_kept_can_be_saved<H: Host>()
 /// Where a memory that was sound has ended, what is kept of its heap is the heap of an image: the next name is of 32 bits, and a disk has no
 /// room for more objects than an image may have.
 pub fn what_is_kept_is_an_image<H: Host>()
-    ensures { (m : Memory H) (now : H) (rest : DiskRest) (next : ℕ) → IsTrue (H.tells Work) → IsSound H.Host m → HasEnded H.Host now rest next (loom_told H.Host m).heap
+    ensures { (m : Memory H H.Host) (now : H) (rest : DiskRest) (next : ℕ) → IsTrue (H.tells Work) → IsSound H.Host m → HasEnded H.Host now rest next (loom_told H.Host m).heap
         → next < 2 ^ 32 → IsImageHeap (kept (loom_told H.Host m).heap no_roots) }
 {}
 
