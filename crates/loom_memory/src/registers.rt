@@ -7,7 +7,7 @@ use crate::memory::LoomMemory;
 use leaf_lambda::fields::is_name;
 use leaf_lambda::numbers::{int_short, short_int};
 use long_names::{Name, Value};
-use loom_host::Host;
+use loom_host::{Host, Role};
 use object_memory::Reg;
 use object_table::Short;
 use purger::touches::touch;
