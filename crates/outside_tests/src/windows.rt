@@ -241,7 +241,8 @@ fn alike_behind_attach(alloc: Global, steps: &[Step]) -> Result<bool, Fail> {
         let mut plain = MemoryHost::new(alloc, 100)?;
         plain.attach(Role::Work, "w")?;
         let mut windowed = opened(alloc, nth)?;
-        alike = alike && alike_until_failed(&mut plain, &mut windowed, &steps[1..]);
+        let behind = steps.get(1..).unwrap_or(steps);
+        alike = alike && alike_until_failed(&mut plain, &mut windowed, behind);
     }
     Ok(alike)
 }
