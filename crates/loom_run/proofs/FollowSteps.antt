@@ -17,7 +17,7 @@ use Rattle.blue_model.specs.declared.cpu.Cpu.{Cpu}
 use Rattle.blue_model.specs.declared.step.Step.{Step}
 use Rattle.blue_model.specs.declared.step.Step.TheVariants as step
 use Rattle.loom_memory.specs.declared.memory.LoomMemory.{LoomMemory}
-use Rattle.loom_memory.specs.Memory.{Others, loom_outside, loom_told}
+use Rattle.loom_memory.specs.Memory.{loom_now, loom_outside, loom_told, Others}
 use Rattle.machine_run.specs.Run.{FaultsBy, HasFault}
 use Rattle.machine_run.specs.declared.running.Reason.TheVariants.{ByStop}
 use Rattle.machine_run.proofs.RunningLaws.{faults_earlier}
@@ -35,8 +35,8 @@ use Rattle.loom_words.specs.Words.{Row}
 
 -- ---- the other roles
 
-module _ {H : Type 0} (host : Ghosts H) (m n : LoomMemory H) (same : SameBut Saved (loom_outside host m) (loom_outside host n)) where
-  left : (r : Role) → IsNoneOf (Transcript ∷ Work ∷ Saved ∷ []) r → IsLeft r (meanings host m.disk.host.now) (meanings host n.disk.host.now)
+module _ {H : Type 0} (host : Ghosts H) (m n : LoomMemory H host) (same : SameBut Saved (loom_outside host m) (loom_outside host n)) where
+  left : (r : Role) → IsNoneOf (Transcript ∷ Work ∷ Saved ∷ []) r → IsLeft r (meanings host (loom_now m)) (meanings host (loom_now n))
   unfolding loom_outside
   left Image none = record { state = ap (λ (o : Others). o.role) (same Image (λ e. cc)); faults = ap (λ (o : Others). o.faults) (same Image (λ e. cc)) }
   left Events none = record { state = ap (λ (o : Others). o.role) (same Events (λ e. cc)); faults = ap (λ (o : Others). o.faults) (same Events (λ e. cc)) }
@@ -46,14 +46,14 @@ module _ {H : Type 0} (host : Ghosts H) (m n : LoomMemory H) (same : SameBut Sav
   left Transcript none = absurd (none.0 refl)
   left Notes none = record { state = ap (λ (o : Others). o.role) (same Notes (λ e. cc)); faults = ap (λ (o : Others). o.faults) (same Notes (λ e. cc)) }
 
-  pub follow-leaves : SameBounds (loom_told host m).bounds (loom_told host n).bounds → (loom_outside host m Saved).faults ≤ (loom_outside host n Saved).faults → LeavesBut (Transcript ∷ Work ∷ Saved ∷ []) (meanings host m.disk.host.now) (meanings host n.disk.host.now)
+  pub follow-leaves : SameBounds (loom_told host m).bounds (loom_told host n).bounds → (loom_outside host m Saved).faults ≤ (loom_outside host n Saved).faults → LeavesBut (Transcript ∷ Work ∷ Saved ∷ []) (meanings host (loom_now m)) (meanings host (loom_now n))
   unfolding loom_told loom_outside
   follow-leaves bounds faults = record { others = left; writes = λ none. absurd (none.1.0 refl); later = later }
     where
-      stays : (r : Role) → IsNoneOf (Transcript ∷ Work ∷ Saved ∷ []) r → host.faults m.disk.host.now r ≤ host.faults n.disk.host.now r
+      stays : (r : Role) → IsNoneOf (Transcript ∷ Work ∷ Saved ∷ []) r → host.faults (loom_now m) r ≤ host.faults (loom_now n) r
       stays r none = let e = (left r none).faults in omega (arith, e)
 
-      later : (r : Role) → host.faults m.disk.host.now r ≤ host.faults n.disk.host.now r
+      later : (r : Role) → host.faults (loom_now m) r ≤ host.faults (loom_now n) r
       later Image = stays Image (λ e. cc, (λ e. cc, (λ e. cc, tt)))
       later Events = stays Events (λ e. cc, (λ e. cc, (λ e. cc, tt)))
       later Work = bounds.3
@@ -62,21 +62,21 @@ module _ {H : Type 0} (host : Ghosts H) (m n : LoomMemory H) (same : SameBut Sav
       later Transcript = bounds.4
       later Notes = stays Notes (λ e. cc, (λ e. cc, (λ e. cc, tt)))
 
-  pub follow-file : IsTrue (host.tells Work) → IsSameFile (host.roles m.disk.host.now Work) (host.roles n.disk.host.now Work)
+  pub follow-file : IsTrue (host.tells Work) → IsSameFile (host.roles (loom_now m) Work) (host.roles (loom_now n) Work)
   unfolding loom_outside
-  follow-file told = file-of (host.tells Work) (host.roles n.disk.host.now Work) (host.roles m.disk.host.now Work) (host.faults n.disk.host.now Work) (host.faults m.disk.host.now Work) told (same Work (λ e. cc))
+  follow-file told = file-of (host.tells Work) (host.roles (loom_now n) Work) (host.roles (loom_now m) Work) (host.faults (loom_now n) Work) (host.faults (loom_now m) Work) told (same Work (λ e. cc))
 
 -- of a memory that left its host as it was, and then of Saved something
-pub same-then : {H : Type 0} (host : Ghosts H) (m mid n : LoomMemory H) → loom_outside host mid ≡ loom_outside host m → SameBut Saved (loom_outside host mid) (loom_outside host n) → SameBut Saved (loom_outside host m) (loom_outside host n)
+pub same-then : {H : Type 0} (host : Ghosts H) (m mid n : LoomMemory H host) → loom_outside host mid ≡ loom_outside host m → SameBut Saved (loom_outside host mid) (loom_outside host n) → SameBut Saved (loom_outside host m) (loom_outside host n)
 same-then host m mid n same others = λ r other. others r other ∙ ap (λ (f : Role → Others). f r) same
 
-pub same-all : {H : Type 0} (host : Ghosts H) (m n : LoomMemory H) → loom_outside host n ≡ loom_outside host m → SameBut Saved (loom_outside host m) (loom_outside host n)
+pub same-all : {H : Type 0} (host : Ghosts H) (m n : LoomMemory H host) → loom_outside host n ≡ loom_outside host m → SameBut Saved (loom_outside host m) (loom_outside host n)
 same-all host m n same = λ r other. ap (λ (f : Role → Others). f r) same
 
 -- ---- the answers
 
-module _ {H : Type 0} (host : Ghosts H) (m n : LoomMemory H) (row : Row) (ran : ℕ) (few : ran ≤ row.steps) (bounds : HasBounds row (loom_told host n)) where
-  followed-by-fault : (f : MemFault) → HasFault (loom_told host m) (loom_told host n) f → IsTraceRefusal host.tells (meanings host m.disk.host.now) (meanings host n.disk.host.now) row EndsFollowed (status_by_fault f ran)
+module _ {H : Type 0} (host : Ghosts H) (m n : LoomMemory H host) (row : Row) (ran : ℕ) (few : ran ≤ row.steps) (bounds : HasBounds row (loom_told host n)) where
+  followed-by-fault : (f : MemFault) → HasFault (loom_told host m) (loom_told host n) f → IsTraceRefusal host.tells (meanings host (loom_now m)) (meanings host (loom_now n)) row EndsFollowed (status_by_fault f ran)
   unfolding loom_told
   followed-by-fault (fault.CoreFull need) h = record { answer = tt; of_run = tt; ran = few; cause = tt; whole = λ work damaged. damaged; limits = fits-row row (loom_told host n).bounds need.words need.entries bounds h }
   followed-by-fault (fault.WorkFull live room) h = record { answer = tt; of_run = tt; ran = tt; cause = tt; whole = λ work damaged. damaged; limits = full-row (λ b. Lives (loom_told host n) b live) row (loom_told host n).bounds live room bounds h }
@@ -86,13 +86,13 @@ module _ {H : Type 0} (host : Ghosts H) (m n : LoomMemory H) (row : Row) (ran : 
   followed-by-fault (fault.Said count) h = record { answer = tt; of_run = λ e. cc; ran = tt; cause = (sym h.0, h.1); whole = λ work damaged. damaged; limits = tt }
   followed-by-fault fault.Memory h = absurd (bounded row (loom_told host n).bounds bounds h)
 
-  pub followed-by : (e : Stop) → FaultsBy (loom_told host m) (loom_told host n) e → IsTraceRefusal host.tells (meanings host m.disk.host.now) (meanings host n.disk.host.now) row EndsFollowed (status_by (ByStop e) ran)
+  pub followed-by : (e : Stop) → FaultsBy (loom_told host m) (loom_told host n) e → IsTraceRefusal host.tells (meanings host (loom_now m)) (meanings host (loom_now n)) row EndsFollowed (status_by (ByStop e) ran)
   followed-by (stop.Stuck cause) h = record { answer = tt; of_run = tt; ran = few; cause = tt; whole = λ work damaged. damaged; limits = tt }
   followed-by (stop.Mem f) h = followed-by-fault f h.cause
 
   -- of a trace behind the start
-  pub followed-all : (mid : LoomMemory H) → loom_outside host mid ≡ loom_outside host m → IsLater (loom_told host m) (loom_told host mid) → (r : Result Step TraceStop) → IfOk r (λ end. HasCounted end ran row.steps) → IfOk r (λ end. IsTrue (is_kept end) → ⊥) → IfErr r (EndsBy (loom_told host mid) (loom_told host n) (loom_outside host mid Saved).faults (loom_outside host n Saved).faults)
-      → IsTraceRefusal host.tells (meanings host m.disk.host.now) (meanings host n.disk.host.now) row EndsFollowed (status_traced r ran)
+  pub followed-all : (mid : LoomMemory H host) → loom_outside host mid ≡ loom_outside host m → IsLater (loom_told host m) (loom_told host mid) → (r : Result Step TraceStop) → IfOk r (λ end. HasCounted end ran row.steps) → IfOk r (λ end. IsTrue (is_kept end) → ⊥) → IfErr r (EndsBy (loom_told host mid) (loom_told host n) (loom_outside host mid Saved).faults (loom_outside host n Saved).faults)
+      → IsTraceRefusal host.tells (meanings host (loom_now m)) (meanings host (loom_now n)) row EndsFollowed (status_traced r ran)
   unfolding loom_outside
   followed-all mid same later (Ok step.Next) counted unkept by = record { answer = tt; of_run = tt; ran = counted; cause = tt; whole = λ work damaged. damaged; limits = tt }
   followed-all mid same later (Ok step.Quit) counted unkept by = record { answer = tt; of_run = tt; ran = counted; cause = tt; whole = λ work damaged. damaged; limits = tt }

@@ -25,7 +25,7 @@ use Rattle.machine_run.specs.declared.running.Reason.{Reason}
 use Rattle.machine_run.specs.declared.running.Reason.TheVariants.{ByStop, NoMemory}
 use Rattle.loom_memory.specs.declared.memory.LoomMemory.{LoomMemory}
 use Rattle.loom_memory.specs.Makings.{IsLost}
-use Rattle.loom_memory.specs.Memory.{Others, loom_outside, loom_told, others_of}
+use Rattle.loom_memory.specs.Memory.{loom_now, loom_outside, loom_told, others_of, Others}
 use Rattle.loom_run.specs.Meanings.{IsLeft, IsNoneOf, LeavesBut, meanings}
 use Rattle.loom_run.specs.Parts.{status_by, status_by_fault}
 use Rattle.loom_run.specs.Stages.{Running, Finishing}
@@ -122,8 +122,8 @@ module _ (old new : Told) (row : Row) (ran : ℕ) (c : Course) (later : IsLater 
 
 -- ---- the answer of a fault
 
-module _ {H : Type 0} (host : Ghosts H) (m n : LoomMemory H) (row : Row) (ran : ℕ) (few : ran ≤ row.steps) (bounds : HasBounds row (loom_told host n)) where
-  pub refused-by : (f : MemFault) → HasFault (loom_told host m) (loom_told host n) f → IsRefusal host.tells (meanings host m.disk.host.now) (meanings host n.disk.host.now) row Running (status_by_fault f ran)
+module _ {H : Type 0} (host : Ghosts H) (m n : LoomMemory H host) (row : Row) (ran : ℕ) (few : ran ≤ row.steps) (bounds : HasBounds row (loom_told host n)) where
+  pub refused-by : (f : MemFault) → HasFault (loom_told host m) (loom_told host n) f → IsRefusal host.tells (meanings host (loom_now m)) (meanings host (loom_now n)) row Running (status_by_fault f ran)
   unfolding loom_told
   refused-by (fault.CoreFull need) h = record { answer = tt; of_run = tt; ran = few; cause = tt; whole = λ work damaged. damaged; limits = fits-row row (loom_told host n).bounds need.words need.entries bounds h }
   refused-by (fault.WorkFull live room) h = record { answer = tt; of_run = tt; ran = tt; cause = tt; whole = λ work damaged. damaged; limits = full-row (λ b. Lives (loom_told host n) b live) row (loom_told host n).bounds live room bounds h }
@@ -133,7 +133,7 @@ module _ {H : Type 0} (host : Ghosts H) (m n : LoomMemory H) (row : Row) (ran : 
   refused-by (fault.Said count) h = record { answer = tt; of_run = λ e. cc; ran = tt; cause = (sym h.0, h.1); whole = λ work damaged. damaged; limits = tt }
   refused-by fault.Memory h = record { answer = tt; of_run = tt; ran = tt; cause = tt; whole = λ work damaged. damaged; limits = tt }
 
-  pub refused-running : (why : Reason) → HaltsBy (loom_told host m) (loom_told host n) why → IsRefusal host.tells (meanings host m.disk.host.now) (meanings host n.disk.host.now) row Running (status_by why ran)
+  pub refused-running : (why : Reason) → HaltsBy (loom_told host m) (loom_told host n) why → IsRefusal host.tells (meanings host (loom_now m)) (meanings host (loom_now n)) row Running (status_by why ran)
   refused-running (ByStop (stop.Stuck cause)) h = record { answer = tt; of_run = tt; ran = few; cause = tt; whole = λ work damaged. damaged; limits = tt }
   refused-running (ByStop (stop.Mem f)) h = refused-by f h.cause
   refused-running NoMemory h = record { answer = tt; of_run = tt; ran = tt; cause = tt; whole = λ work damaged. damaged; limits = tt }
@@ -144,11 +144,11 @@ pub file-of : (told : Bool) (s t : RoleState) (i k : ℕ) → IsTrue told → ot
 file-of true s t i k told e = ap (λ (o : Others). holds s.contents o.role) e
 file-of false s t i k told e = let no : ◌≡◌ {A = Bool} false true = told in absurd (cc)
 
-module _ {H : Type 0} (host : Ghosts H) (m n : LoomMemory H) (same : loom_outside host n ≡ loom_outside host m) where
+module _ {H : Type 0} (host : Ghosts H) (m n : LoomMemory H host) (same : loom_outside host n ≡ loom_outside host m) where
   others-at : (r : Role) → loom_outside host n r ≡ loom_outside host m r
   others-at r = ap (λ (f : Role → Others). f r) same
 
-  left : (r : Role) → IsNoneOf (Transcript ∷ Work ∷ []) r → IsLeft r (meanings host m.disk.host.now) (meanings host n.disk.host.now)
+  left : (r : Role) → IsNoneOf (Transcript ∷ Work ∷ []) r → IsLeft r (meanings host (loom_now m)) (meanings host (loom_now n))
   unfolding loom_outside
   left Image none = record { state = ap (λ (o : Others). o.role) (others-at Image); faults = ap (λ (o : Others). o.faults) (others-at Image) }
   left Events none = record { state = ap (λ (o : Others). o.role) (others-at Events); faults = ap (λ (o : Others). o.faults) (others-at Events) }
@@ -158,14 +158,14 @@ module _ {H : Type 0} (host : Ghosts H) (m n : LoomMemory H) (same : loom_outsid
   left Transcript none = absurd (none.0 refl)
   left Notes none = record { state = ap (λ (o : Others). o.role) (others-at Notes); faults = ap (λ (o : Others). o.faults) (others-at Notes) }
 
-  pub outside-leaves : SameBounds (loom_told host m).bounds (loom_told host n).bounds → LeavesBut (Transcript ∷ Work ∷ []) (meanings host m.disk.host.now) (meanings host n.disk.host.now)
+  pub outside-leaves : SameBounds (loom_told host m).bounds (loom_told host n).bounds → LeavesBut (Transcript ∷ Work ∷ []) (meanings host (loom_now m)) (meanings host (loom_now n))
   unfolding loom_told
   outside-leaves bounds = record { others = left; writes = λ none. absurd (none.1.0 refl); later = later }
     where
-      stays : (r : Role) → IsNoneOf (Transcript ∷ Work ∷ []) r → host.faults m.disk.host.now r ≤ host.faults n.disk.host.now r
+      stays : (r : Role) → IsNoneOf (Transcript ∷ Work ∷ []) r → host.faults (loom_now m) r ≤ host.faults (loom_now n) r
       stays r none = let e = (left r none).faults in omega (arith, e)
 
-      later : (r : Role) → host.faults m.disk.host.now r ≤ host.faults n.disk.host.now r
+      later : (r : Role) → host.faults (loom_now m) r ≤ host.faults (loom_now n) r
       later Image = stays Image (λ e. cc, (λ e. cc, tt))
       later Events = stays Events (λ e. cc, (λ e. cc, tt))
       later Work = bounds.3
@@ -174,14 +174,14 @@ module _ {H : Type 0} (host : Ghosts H) (m n : LoomMemory H) (same : loom_outsid
       later Transcript = bounds.4
       later Notes = stays Notes (λ e. cc, (λ e. cc, tt))
 
-  pub file-left : IsTrue (host.tells Work) → IsSameFile (host.roles m.disk.host.now Work) (host.roles n.disk.host.now Work)
+  pub file-left : IsTrue (host.tells Work) → IsSameFile (host.roles (loom_now m) Work) (host.roles (loom_now n) Work)
   unfolding loom_outside
-  file-left told = file-of (host.tells Work) (host.roles n.disk.host.now Work) (host.roles m.disk.host.now Work) (host.faults n.disk.host.now Work) (host.faults m.disk.host.now Work) told (others-at Work)
+  file-left told = file-of (host.tells Work) (host.roles (loom_now n) Work) (host.roles (loom_now m) Work) (host.faults (loom_now n) Work) (host.faults (loom_now m) Work) told (others-at Work)
 
 -- ---- a memory that couldn't be wound up
 
-module _ {H : Type 0} (host : Ghosts H) (m n : LoomMemory H) (row : Row) (ran : ℕ) where
-  pub refused-lost : (f : MemFault) → IsLost f → HasCause (loom_told host m) (loom_told host n) Thins f → IsRefusal host.tells (meanings host m.disk.host.now) (meanings host n.disk.host.now) row Finishing (status_by_fault f ran)
+module _ {H : Type 0} (host : Ghosts H) (m n : LoomMemory H host) (row : Row) (ran : ℕ) where
+  pub refused-lost : (f : MemFault) → IsLost f → HasCause (loom_told host m) (loom_told host n) Thins f → IsRefusal host.tells (meanings host (loom_now m)) (meanings host (loom_now n)) row Finishing (status_by_fault f ran)
   unfolding loom_told
   refused-lost (fault.CoreFull need) lost h = absurd lost
   refused-lost (fault.WorkFull live room) lost h = absurd lost

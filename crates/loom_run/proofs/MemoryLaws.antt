@@ -11,7 +11,7 @@ use Rattle.long_names.proofs.KeptLaws.{kept-part}
 use Rattle.loom_host.specs.declared.outside.Host.{Ghosts}
 use Rattle.loom_host.specs.declared.outside.Role.TheVariants.{Work}
 use Rattle.loom_memory.specs.declared.memory.LoomMemory.{LoomMemory}
-use Rattle.loom_memory.specs.Memory.{loom_told, IsSound}
+use Rattle.loom_memory.specs.Memory.{loom_now, loom_parts, loom_rest, loom_told, IsSound}
 use Rattle.loom_memory.proofs.ExactLaws.{levels-told}
 use Rattle.long_names.specs.Kept.{kept, no_roots}
 use Rattle.long_names.specs.Thin.{IsThinner, IsWhole}
@@ -113,9 +113,9 @@ part-has h n None e some = let no : ◌≡◌ {A = Bool} false true = some in ab
 part-has h n (Some o) e some = ap is_some ((kept-part h no_roots).same n o e)
 
 -- objects of a memory have names of 32 bits
-pub long-kept : {H : Type 0} (host : Ghosts H) (m : LoomMemory H) → IsTrue (host.tells Work) → IsSound host m → HasLongNames (kept (loom_told host m).heap no_roots)
+pub long-kept : {H : Type 0} (host : Ghosts H) (m : LoomMemory H host) → IsTrue (host.tells Work) → IsSound host m → HasLongNames (kept (loom_told host m).heap no_roots)
 unfolding loom_told
 long-kept host m told sound =
     let e = sound.exact told in
-    let heap = levels-told host m.parts m.disk.host.now m.disk.rest e.0 m.ledger.next e.1 e.3 told in
+    let heap = levels-told host (loom_parts m) (loom_now m) (loom_rest m) e.0 m.ledger.next e.1 e.3 told in
     λ n has. e.2.heap.long n (subst (λ (h : Heap). Has h n) heap (part-has (loom_told host m).heap n ((kept (loom_told host m).heap no_roots).at n) refl has))

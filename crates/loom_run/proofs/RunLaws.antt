@@ -25,7 +25,7 @@ use Rattle.machine_run.specs.States.{model_state}
 use Rattle.machine_run.specs.declared.running.Finished.{Finished}
 use Rattle.loom_memory.specs.Beginning.{IsFirst}
 use Rattle.loom_memory.specs.declared.memory.LoomMemory.{LoomMemory}
-use Rattle.loom_memory.specs.Memory.{loom_told, IsSound}
+use Rattle.loom_memory.specs.Memory.{loom_now, loom_told, IsSound}
 use Rattle.loom_run.specs.Ends.{SaysStopped}
 use Rattle.loom_run.specs.Meanings.{Meanings, LeavesBut, meanings}
 use Rattle.loom_run.specs.Stages.{Listening, Running, Finishing, roles_at}
@@ -46,40 +46,40 @@ parked-of : (end : Step) (ran : ℕ) (e : Ending) → IsParkedBy end ran e → I
 parked-of end ran (Parked last m drawn) h = tt
 parked-of end ran (Stuck why count said) h = h
 
-module _ {H : Type 0} (host : Ghosts H) (m n : LoomMemory H) (before : Meanings) (row : Row) (state : Words) (h : Heap) (lines : List Line)
-    (came : Came host.tells before (meanings host m.disk.host.now) row Listening state h lines)
-    (file : IsTrue (host.tells Work) → IsSameFile (host.roles m.disk.host.now Work) (host.roles n.disk.host.now Work)) (others : LeavesBut (roles_at Running) (meanings host m.disk.host.now) (meanings host n.disk.host.now)) where
+module _ {H : Type 0} (host : Ghosts H) (m n : LoomMemory H host) (before : Meanings) (row : Row) (state : Words) (h : Heap) (lines : List Line)
+    (came : Came host.tells before (meanings host (loom_now m)) row Listening state h lines)
+    (file : IsTrue (host.tells Work) → IsSameFile (host.roles (loom_now m) Work) (host.roles (loom_now n) Work)) (others : LeavesBut (roles_at Running) (meanings host (loom_now m)) (meanings host (loom_now n))) where
   abbrev of : Course
   of = course lines row.steps (model_state state) h
 
   -- nothing was said in this run before it
-  from-start : host.roles m.disk.host.now Transcript ≡ before.roles Transcript
+  from-start : host.roles (loom_now m) Transcript ≡ before.roles Transcript
   from-start = (came.uses.unused Transcript refl).state
 
-  pub machine-refused : (status : Status) → IsRefusal host.tells (meanings host m.disk.host.now) (meanings host n.disk.host.now) row Running status → (IsTrue (host.tells Work) → WasStopped (loom_told host m) (loom_told host n) row status of) → RunEnds host.tells before (meanings host n.disk.host.now) row status
+  pub machine-refused : (status : Status) → IsRefusal host.tells (meanings host (loom_now m)) (meanings host (loom_now n)) row Running status → (IsTrue (host.tells Work) → WasStopped (loom_told host m) (loom_told host n) row status of) → RunEnds host.tells before (meanings host (loom_now n)) row status
   unfolding loom_told
   machine-refused status refused stopped =
-      ends-running host.tells before row state h lines (meanings host m.disk.host.now) (meanings host n.disk.host.now) status came.uses.later
-      (came-running host.tells before row (meanings host m.disk.host.now) state h lines came (meanings host n.disk.host.now) file others) refused
-      (λ work. ((stopped work).stops, λ speaks. subst (λ (s : RoleState). SaysStopped status row of s.put (host.roles n.disk.host.now Transcript).put) from-start ((stopped work).says speaks)))
+      ends-running host.tells before row state h lines (meanings host (loom_now m)) (meanings host (loom_now n)) status came.uses.later
+      (came-running host.tells before row (meanings host (loom_now m)) state h lines came (meanings host (loom_now n)) file others) refused
+      (λ work. ((stopped work).stops, λ speaks. subst (λ (s : RoleState). SaysStopped status row of s.put (host.roles (loom_now n) Transcript).put) from-start ((stopped work).says speaks)))
 
   module _ (finished : Finished) (went : IsTrue (host.tells Work) → WentThrough (loom_told host m) (loom_told host n) row finished of)
-      (k : LoomMemory H) (leaves : LeavesBut (roles_at Finishing) (meanings host n.disk.host.now) (meanings host k.disk.host.now)) (same : IsTrue (host.tells Work) → IsSameFile (host.roles n.disk.host.now Work) (host.roles k.disk.host.now Work))
+      (k : LoomMemory H host) (leaves : LeavesBut (roles_at Finishing) (meanings host (loom_now n)) (meanings host (loom_now k))) (same : IsTrue (host.tells Work) → IsSameFile (host.roles (loom_now n) Work) (host.roles (loom_now k) Work))
       (silent : (loom_told host k).transcript ≡ (loom_told host n).transcript) where
-    pub came-end : Came host.tells before (meanings host k.disk.host.now) row Finishing state h lines
-    came-end = came-finishing host.tells before row (meanings host m.disk.host.now) state h lines came (meanings host n.disk.host.now) file others (meanings host k.disk.host.now) same leaves
+    pub came-end : Came host.tells before (meanings host (loom_now k)) row Finishing state h lines
+    came-end = came-finishing host.tells before row (meanings host (loom_now m)) state h lines came (meanings host (loom_now n)) file others (meanings host (loom_now k)) same leaves
 
-    said-end : IsTrue (host.tells Work) → IsTrue (host.tells Transcript) → (host.roles k.disk.host.now Transcript).put ≡ (before.roles Transcript).put ++ said_in of.ending
+    said-end : IsTrue (host.tells Work) → IsTrue (host.tells Transcript) → (host.roles (loom_now k) Transcript).put ≡ (before.roles Transcript).put ++ said_in of.ending
     unfolding loom_told
     said-end work speaks = silent ∙ (went work).said speaks ∙ ap (λ (s : RoleState). s.put ++ said_in of.ending) from-start
 
-    pub unwound : (status : Status) → IsRefusal host.tells (meanings host n.disk.host.now) (meanings host k.disk.host.now) row Finishing status → RunEnds host.tells before (meanings host k.disk.host.now) row status
+    pub unwound : (status : Status) → IsRefusal host.tells (meanings host (loom_now n)) (meanings host (loom_now k)) row Finishing status → RunEnds host.tells before (meanings host (loom_now k)) row status
     unwound status refused =
-        ends-finishing host.tells before row state h lines (meanings host n.disk.host.now) (meanings host k.disk.host.now) status
-        (came-running host.tells before row (meanings host m.disk.host.now) state h lines came (meanings host n.disk.host.now) file others).uses.later came-end refused
+        ends-finishing host.tells before row state h lines (meanings host (loom_now n)) (meanings host (loom_now k)) status
+        (came-running host.tells before row (meanings host (loom_now m)) state h lines came (meanings host (loom_now n)) file others).uses.later came-end refused
         (λ work. (parked-of finished.end finished.ran of.ending (went work).parked, (went work).fits, said-end work))
 
-    pub came-through : (IsTrue (host.tells Work) → BeginsImage h state (loom_told host m)) → IsReady (loom_told host m) → IsReady (loom_told host n) → IsSound host n → (IsTrue (host.tells Work) → IsImageHeap (kept (loom_told host n).heap no_roots)) → finished.state.tick < 2 ^ 32 → IsTrue (host.tells Work) → CameThrough host.tells before (meanings host k.disk.host.now) row finished (loom_told host n).heap of
+    pub came-through : (IsTrue (host.tells Work) → BeginsImage h state (loom_told host m)) → IsReady (loom_told host m) → IsReady (loom_told host n) → IsSound host n → (IsTrue (host.tells Work) → IsImageHeap (kept (loom_told host n).heap no_roots)) → finished.state.tick < 2 ^ 32 → IsTrue (host.tells Work) → CameThrough host.tells before (meanings host (loom_now k)) row finished (loom_told host n).heap of
     unfolding loom_told
     came-through begins ready now sound image fits work = record {
       parked = (went work).parked;

@@ -44,7 +44,7 @@ exit-by P e r is h =
 
 -- ---- what is told
 
-pub tells-work : {H : Type 0} (host : Ghosts H) (m : LoomMemory H) → IsTrue (host.tells Work) → IsTrue (loom_told host m).tells
+pub tells-work : {H : Type 0} (host : Ghosts H) (m : LoomMemory H host) → IsTrue (host.tells Work) → IsTrue (loom_told host m).tells
 unfolding loom_told
 tells-work host m work = work
 
@@ -177,7 +177,7 @@ sound-other A B (Mem f) P h = h
 others-then : {X : Type 0} (role : Role) (a b c : Role → X) → SameBut role a b → c ≡ b → SameBut role a c
 others-then role a b c first same = λ r other. ap (λ f. f r) same ∙ first r other
 
-module _ {H : Type 0} (host : Ghosts H) (old new : LoomMemory H) (same : loom_outside host new ≡ loom_outside host old) where
+module _ {H : Type 0} (host : Ghosts H) (old new : LoomMemory H host) (same : loom_outside host new ≡ loom_outside host old) where
   pub role-left : (r : Role) → (loom_outside host new r).role ≡ (loom_outside host old r).role
   role-left r = ap (λ (f : Role → Others). (f r).role) same
 
@@ -188,7 +188,7 @@ module _ {H : Type 0} (host : Ghosts H) (old new : LoomMemory H) (same : loom_ou
   others-left = λ r other. ap (λ (f : Role → Others). f r) same
 
 -- the cycle stopped
-pub fit-stopped : {H : Type 0} (host : Ghosts H) (old new : LoomMemory H) (A : Type 0) (stop : CallStop) → StaysSound {A = A} (Err stop) (IsSound host new) → loom_outside host new ≡ loom_outside host old → loom_lender new ≡ loom_lender old → TraceFit {A = Step} host old new (Err (Stop stop))
+pub fit-stopped : {H : Type 0} (host : Ghosts H) (old new : LoomMemory H host) (A : Type 0) (stop : CallStop) → StaysSound {A = A} (Err stop) (IsSound host new) → loom_outside host new ≡ loom_outside host old → loom_lender new ≡ loom_lender old → TraceFit {A = Step} host old new (Err (Stop stop))
 fit-stopped host old new A stop sound same lender = record {
   sound = sound-other A (Unit {0}) stop (IsSound host new) sound;
   ready = tt;
@@ -204,7 +204,7 @@ cut-sound before faults (Stop stop) P cut h = absurd cut
 cut-sound before faults (Write count) P cut h = h
 
 -- the memory after the cycle, and after its line
-module _ {H : Type 0} (host : Ghosts H) (old mid new : LoomMemory H) (same : loom_outside host mid ≡ loom_outside host old) (lender : loom_lender mid ≡ loom_lender old) (others : SameBut Saved (loom_outside host mid) (loom_outside host new)) (later : (loom_outside host mid Saved).faults ≤ (loom_outside host new Saved).faults) (lent : loom_lender new ≡ loom_lender mid) (only : IsTrue (host.tells Saved) → OnlyPut (loom_outside host mid Saved).role (loom_outside host new Saved).role) where
+module _ {H : Type 0} (host : Ghosts H) (old mid new : LoomMemory H host) (same : loom_outside host mid ≡ loom_outside host old) (lender : loom_lender mid ≡ loom_lender old) (others : SameBut Saved (loom_outside host mid) (loom_outside host new)) (later : (loom_outside host mid Saved).faults ≤ (loom_outside host new Saved).faults) (lent : loom_lender new ≡ loom_lender mid) (only : IsTrue (host.tells Saved) → OnlyPut (loom_outside host mid Saved).role (loom_outside host new Saved).role) where
   only-after : IsTrue (host.tells Saved) → OnlyPut (loom_outside host old Saved).role (loom_outside host new Saved).role
   only-after saved = only-then (loom_outside host old Saved).role (loom_outside host mid Saved).role (loom_outside host new Saved).role (only-same (loom_outside host old Saved).role (loom_outside host mid Saved).role (role-left host old mid same Saved)) (only saved)
 
@@ -225,7 +225,7 @@ module _ {H : Type 0} (host : Ghosts H) (old mid new : LoomMemory H) (same : loo
   }
 
   -- and after the settling behind it
-  pub fit-behind : (last : LoomMemory H) (r : Result Step TraceStop) → loom_outside host last ≡ loom_outside host new → loom_lender last ≡ loom_lender new → TraceSound r (IsSound host last) → OnOk r (IsReady (loom_told host last)) → TraceFit host old last r
+  pub fit-behind : (last : LoomMemory H host) (r : Result Step TraceStop) → loom_outside host last ≡ loom_outside host new → loom_lender last ≡ loom_lender new → TraceSound r (IsSound host last) → OnOk r (IsReady (loom_told host last)) → TraceFit host old last r
   fit-behind last r behind borrowed sound ready = record {
     sound = sound;
     ready = ready;
@@ -278,7 +278,7 @@ ends-earlier old mid new before between now (Write count) later low h = (h.0, ro
     rose-earlier a b c low h = omega arith
 
 -- what a cycle leaves, seen from further back
-pub fit-earlier : {H : Type 0} (host : Ghosts H) (old mid new : LoomMemory H) (r : Result Step TraceStop) → SameBut Saved (loom_outside host old) (loom_outside host mid) → loom_lender mid ≡ loom_lender old → (loom_outside host old Saved).faults ≤ (loom_outside host mid Saved).faults → (IsTrue (host.tells Saved) → OnlyPut (loom_outside host old Saved).role (loom_outside host mid Saved).role) → TraceFit host mid new r → TraceFit host old new r
+pub fit-earlier : {H : Type 0} (host : Ghosts H) (old mid new : LoomMemory H host) (r : Result Step TraceStop) → SameBut Saved (loom_outside host old) (loom_outside host mid) → loom_lender mid ≡ loom_lender old → (loom_outside host old Saved).faults ≤ (loom_outside host mid Saved).faults → (IsTrue (host.tells Saved) → OnlyPut (loom_outside host old Saved).role (loom_outside host mid Saved).role) → TraceFit host mid new r → TraceFit host old new r
 fit-earlier host old mid new r others lender low only x = record {
   sound = x.sound;
   ready = x.ready;

@@ -13,7 +13,7 @@ use Rattle.blue_model.specs.declared.event.Line.{Line}
 use Rattle.blue_model.specs.Logs.{course}
 use Rattle.machine_run.specs.States.{model_state}
 use Rattle.loom_memory.specs.declared.memory.LoomMemory.{LoomMemory}
-use Rattle.loom_memory.specs.Memory.{loom_outside, loom_told}
+use Rattle.loom_memory.specs.Memory.{loom_now, loom_outside, loom_told}
 use Rattle.loom_run.specs.Ends.{AttachedOnce, WasRefused, WasWritten}
 use Rattle.loom_run.specs.Following.{EndsFollowed, Followed, FollowsAs, FollowsTo, IsTraceRefusal, PutsBy, TraceEnds, UsesTrace, WrittenSo}
 use Rattle.loom_run.specs.Meanings.{LeavesBut, Meanings, meanings}
@@ -81,7 +81,7 @@ module _ {H : Type 0} (host : Ghosts H) (old mid : H) (rest after : DiskRest) (x
     unmade-end put = trace-unmade host.tells before row (meanings host old) x.state (heap_on host old rest x.next) lines came (meanings host mid) once (states Work (λ e. cc)) attach-leaves put
 
     -- The memory was made over it, and its machine ran.
-    module _ (m n : LoomMemory H) (at : m.disk.host.now ≡ mid) (opened : IsTrue (host.tells Saved) → WasWritten row.saved [] (host.roles old Saved) (host.roles mid Saved))
+    module _ (m n : LoomMemory H host) (at : (loom_now m) ≡ mid) (opened : IsTrue (host.tells Saved) → WasWritten row.saved [] (host.roles old Saved) (host.roles mid Saved))
         (begins : IsTrue (host.tells Work) → BeginsWith (heap_on host mid after x.next) (loom_told host m)) where
       abbrev heap : Heap
       heap = heap_on host old rest x.next
@@ -89,29 +89,29 @@ module _ {H : Type 0} (host : Ghosts H) (old mid : H) (rest after : DiskRest) (x
       pub begins-behind : IsTrue (host.tells Work) → BeginsImage heap x.state (loom_told host m)
       begins-behind work = subst (λ h. BeginsImage h x.state (loom_told host m)) heap-behind record { image = (image-behind.heap work).is; state_is = image-behind.state work; begins = begins work }
 
-      used-then : UsesTrace host.tells before (meanings host m.disk.host.now) row Making
+      used-then : UsesTrace host.tells before (meanings host (loom_now m)) row Making
       used-then = subst (λ (h : H). UsesTrace host.tells before (meanings host h) row Making) (sym at) (used-making host.tells before row (meanings host old) x.state heap lines came (meanings host mid) once (states Work (λ e. cc)) attach-leaves)
 
-      read-then : HasRead host.tells (meanings host m.disk.host.now) row x.state heap
+      read-then : HasRead host.tells (meanings host (loom_now m)) row x.state heap
       read-then = subst (λ (h : H). HasRead host.tells (meanings host h) row x.state heap) (sym at) (read-making host.tells before row (meanings host old) x.state heap lines came (meanings host mid) once (states Work (λ e. cc)) attach-leaves)
 
-      heard-then : HasHeard host.tells (meanings host m.disk.host.now) row lines
+      heard-then : HasHeard host.tells (meanings host (loom_now m)) row lines
       heard-then = subst (λ (h : H). HasHeard host.tells (meanings host h) row lines) (sym at) (heard-making host.tells before row (meanings host old) x.state heap lines came (meanings host mid) once (states Work (λ e. cc)) attach-leaves)
 
       -- nothing was said in this trace before it
-      from-start : host.roles m.disk.host.now Transcript ≡ before.roles Transcript
+      from-start : host.roles (loom_now m) Transcript ≡ before.roles Transcript
       from-start = ap (λ (h : H). host.roles h Transcript) at ∙ states Transcript (λ e. cc) ∙ (came.uses.unused Transcript refl).state
 
-      attached-then : IsTrue (host.tells Saved) → WasWritten row.saved [] (before.roles Saved) (host.roles m.disk.host.now Saved)
+      attached-then : IsTrue (host.tells Saved) → WasWritten row.saved [] (before.roles Saved) (host.roles (loom_now m) Saved)
       attached-then told = subst (λ (h : H). WasWritten row.saved [] (before.roles Saved) (host.roles h Saved)) (sym at)
           (subst (λ (s : RoleState). WasWritten row.saved [] s (host.roles mid Saved)) (came.uses.unused Saved refl).state (opened told))
 
       module _ (status : Status) (follows : IsTrue (host.tells Work) → (h : Heap) → BeginsImage h x.state (loom_told host m) → FollowsAs (loom_told host m) (loom_told host n) row status lines (model_state x.state) h (host.tells Saved) (loom_outside host m Saved).role (loom_outside host n Saved).role)
           (only : IsTrue (host.tells Saved) → OnlyPut (loom_outside host m Saved).role (loom_outside host n Saved).role)
-          (file : IsTrue (host.tells Work) → IsSameFile (host.roles m.disk.host.now Work) (host.roles n.disk.host.now Work))
-          (leaves : LeavesBut (Transcript ∷ Work ∷ Saved ∷ []) (meanings host m.disk.host.now) (meanings host n.disk.host.now))
-          (refused : IsTraceRefusal host.tells (meanings host m.disk.host.now) (meanings host n.disk.host.now) row EndsFollowed status) where
-        follows-then : IsTrue (host.tells Work) → FollowsTo host.tells before (meanings host n.disk.host.now) row status lines (model_state x.state) heap
+          (file : IsTrue (host.tells Work) → IsSameFile (host.roles (loom_now m) Work) (host.roles (loom_now n) Work))
+          (leaves : LeavesBut (Transcript ∷ Work ∷ Saved ∷ []) (meanings host (loom_now m)) (meanings host (loom_now n)))
+          (refused : IsTraceRefusal host.tells (meanings host (loom_now m)) (meanings host (loom_now n)) row EndsFollowed status) where
+        follows-then : IsTrue (host.tells Work) → FollowsTo host.tells before (meanings host (loom_now n)) row status lines (model_state x.state) heap
         unfolding loom_told loom_outside
         follows-then work =
             let f = follows work heap (begins-behind work) in
@@ -122,25 +122,25 @@ module _ {H : Type 0} (host : Ghosts H) (old mid : H) (rest after : DiskRest) (x
               stops = f.stops;
               within = f.within;
               goes = f.goes;
-              says = λ speaks. subst (λ (s : RoleState). SaysTraced status row (course lines row.steps (model_state x.state) heap) f.completed s.put (host.roles n.disk.host.now Transcript).put) from-start (f.says speaks);
-              lines = λ saved. written-so status row.saved (lines_from lines f.completed (started (model_state x.state) heap)) (before.roles Saved) (host.roles m.disk.host.now Saved) (host.roles n.disk.host.now Saved) (attached-then saved) (f.lines saved);
-              whole = λ saved. subst (λ (bytes : List ℕ). AreWhole lines f.completed (started (model_state x.state) heap) (length bytes) (length (host.roles n.disk.host.now Saved).put)) (attached-then saved).put (f.whole saved);
+              says = λ speaks. subst (λ (s : RoleState). SaysTraced status row (course lines row.steps (model_state x.state) heap) f.completed s.put (host.roles (loom_now n) Transcript).put) from-start (f.says speaks);
+              lines = λ saved. written-so status row.saved (lines_from lines f.completed (started (model_state x.state) heap)) (before.roles Saved) (host.roles (loom_now m) Saved) (host.roles (loom_now n) Saved) (attached-then saved) (f.lines saved);
+              whole = λ saved. subst (λ (bytes : List ℕ). AreWhole lines f.completed (started (model_state x.state) heap) (length bytes) (length (host.roles (loom_now n) Saved).put)) (attached-then saved).put (f.whole saved);
             }
 
-        only-then : IsTrue (host.tells Saved) → OnlyPut (host.roles m.disk.host.now Saved) (host.roles n.disk.host.now Saved)
+        only-then : IsTrue (host.tells Saved) → OnlyPut (host.roles (loom_now m) Saved) (host.roles (loom_now n) Saved)
         unfolding loom_outside
         only-then saved = only saved
 
-        pub followed-then : Followed host.tells before (meanings host n.disk.host.now) row status lines x.state heap
+        pub followed-then : Followed host.tells before (meanings host (loom_now n)) row status lines x.state heap
         followed-then = record {
-          uses = traced-running host.tells row before (meanings host m.disk.host.now) (meanings host n.disk.host.now) used-then file only-then leaves;
-          read = read-left host.tells before row (meanings host m.disk.host.now) (meanings host n.disk.host.now) x.state heap (leaves.others Image (λ e. cc, (λ e. cc, (λ e. cc, tt)))).state read-then;
-          heard = heard-left host.tells before row (meanings host m.disk.host.now) (meanings host n.disk.host.now) lines (leaves.others Events (λ e. cc, (λ e. cc, (λ e. cc, tt)))).state heard-then;
+          uses = traced-running host.tells row before (meanings host (loom_now m)) (meanings host (loom_now n)) used-then file only-then leaves;
+          read = read-left host.tells before row (meanings host (loom_now m)) (meanings host (loom_now n)) x.state heap (leaves.others Image (λ e. cc, (λ e. cc, (λ e. cc, tt)))).state read-then;
+          heard = heard-left host.tells before row (meanings host (loom_now m)) (meanings host (loom_now n)) lines (leaves.others Events (λ e. cc, (λ e. cc, (λ e. cc, tt)))).state heard-then;
           refusal = record {
             answer = refused.answer;
             of_run = refused.of_run;
             ran = refused.ran;
-            cause = cause-since status before.faults (host.faults m.disk.host.now) (host.faults n.disk.host.now) used-then.later refused.cause;
+            cause = cause-since status before.faults (host.faults (loom_now m)) (host.faults (loom_now n)) used-then.later refused.cause;
             whole = refused.whole;
             limits = refused.limits;
           };

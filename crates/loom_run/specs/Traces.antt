@@ -105,7 +105,7 @@ OnlyPut old new = new ≡ record old { put = new.put }
 
 -- The memory may be called again, but after a fault that leaves nothing known. Its loan is as before, and all that it leaves of its host but
 -- Saved, whose faults don't fall.
-pub record TraceFit {H A : Type 0} (host : Ghosts H) (old new : LoomMemory H) (answer : Result A TraceStop) : Type 0 where
+pub record TraceFit {H A : Type 0} (host : Ghosts H) (old new : LoomMemory H host) (answer : Result A TraceStop) : Type 0 where
   pub sound : TraceSound answer (IsSound host new)
   pub ready : OnOk answer (IsReady (loom_told host new))
   pub lender : loom_lender new ≡ loom_lender old

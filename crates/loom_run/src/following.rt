@@ -8,7 +8,7 @@ ghost use Rattle.long_names.specs.Heap.{Heap};
 ghost use Rattle.disk_objects.specs.Disk.{disk_room};
 ghost use Rattle.image_reader.specs.Loaded.{heap_on};
 ghost use Rattle.image_memory.specs.Image.{HasImage};
-ghost use Rattle.loom_memory.specs.Memory.{IsSound, loom_lender, loom_outside, loom_told};
+ghost use Rattle.loom_memory.specs.Memory.{loom_lender, loom_now, loom_outside, loom_told, IsSound};
 ghost use Rattle.machine_run.specs.States.{model_state};
 ghost use Rattle.object_memory.specs.Told.{IsReady};
 ghost use Rattle.loom_words.specs.Command.{HasLimits, row_for};
@@ -139,10 +139,10 @@ fn trace_machine<H: Host>(
         → FollowsAs (loom_told H.Host memory.old) (loom_told H.Host memory.new) (row_for command.now) result events.now (model_state state.now) h
         (H.tells Role.Saved) (loom_outside H.Host memory.old Role.Saved).role (loom_outside H.Host memory.new Role.Saved).role }
     ensures only { IsTrue (H.tells Role.Saved) → OnlyPut (loom_outside H.Host memory.old Role.Saved).role (loom_outside H.Host memory.new Role.Saved).role }
-    ensures file { IsTrue (H.tells Role.Work) → IsSameFile (H.roles memory.old.disk.host.now Role.Work) (H.roles memory.new.disk.host.now Role.Work) }
+    ensures file { IsTrue (H.tells Role.Work) → IsSameFile (H.roles (loom_now memory.old) Role.Work) (H.roles (loom_now memory.new) Role.Work) }
     ensures lender { loom_lender memory.new ≡ loom_lender memory.old }
-    ensures others { LeavesBut (role.Transcript ∷ role.Work ∷ role.Saved ∷ []) (meanings H.Host memory.old.disk.host.now) (meanings H.Host memory.new.disk.host.now) }
-    ensures answer { IsTraceRefusal H.tells (meanings H.Host memory.old.disk.host.now) (meanings H.Host memory.new.disk.host.now) (row_for command.now) EndsFollowed result }
+    ensures others { LeavesBut (role.Transcript ∷ role.Work ∷ role.Saved ∷ []) (meanings H.Host (loom_now memory.old)) (meanings H.Host (loom_now memory.new)) }
+    ensures answer { IsTraceRefusal H.tells (meanings H.Host (loom_now memory.old)) (meanings H.Host (loom_now memory.new)) (row_for command.now) EndsFollowed result }
 {
     let mut cpu = Cpu::at_rest();
     if let Err(stop) = begin(memory, &mut cpu, state) {

@@ -128,7 +128,7 @@ pub fn each_spelling_gives_the_other()
 /// No refusal of the memory for want of memory ends a run, over any host: no call in a cycle takes any. That the picture alone wants memory then is
 /// said where Work is told (`Stops`).
 pub fn no_cycle_wants_memory<H: Host>()
-    ensures { (m n : LoomMemory H) → HaltsBy (loom_told H.Host m) (loom_told H.Host n) (ByStop (Mem Memory)) → ⊥ }
+    ensures { (m n : LoomMemory H H.Host) → HaltsBy (loom_told H.Host m) (loom_told H.Host n) (ByStop (Mem Memory)) → ⊥ }
 {}
 
 /// No answer of a run but Usage comes at once: the role that it is about was attached before it, or the last one that a run attaches before it can come

@@ -8,7 +8,7 @@ ghost use Rattle.blue_model.specs.Endings.{HasCounted};
 ghost use Rattle.contexts.specs.Keeping.{is_kept};
 ghost use Rattle.object_memory.specs.Contract.{SameBounds};
 ghost use Rattle.object_memory.specs.Told.{IsReady};
-ghost use Rattle.loom_memory.specs.Memory.{loom_told, loom_lender, IsSound};
+ghost use Rattle.loom_memory.specs.Memory.{loom_lender, loom_now, loom_rest, loom_told, IsSound};
 ghost use Rattle.machine_run.specs.States.{model_state};
 ghost use Rattle.image_memory.specs.Image.{HasEnded};
 ghost use Rattle.loom_words.specs.Command.{row_for};
@@ -45,10 +45,10 @@ pub(crate) fn run_machine<H: Host, O: Observer>(
     ensures tick { IfOk result (λ finished. finished.state.tick < 2 ^ 32) }
     ensures sound { OnOk result (IsSound H.Host memory.new) }
     ensures ready { OnOk result (IsReady (loom_told H.Host memory.new)) }
-    ensures file { IsTrue (H.tells Role.Work) → IsSameFile (H.roles memory.old.disk.host.now Role.Work) (H.roles memory.new.disk.host.now Role.Work) }
+    ensures file { IsTrue (H.tells Role.Work) → IsSameFile (H.roles (loom_now memory.old) Role.Work) (H.roles (loom_now memory.new) Role.Work) }
     ensures lender { loom_lender memory.new ≡ loom_lender memory.old }
-    ensures others { LeavesBut (roles_at Running) (meanings H.Host memory.old.disk.host.now) (meanings H.Host memory.new.disk.host.now) }
-    ensures refused { IfErr result (IsRefusal H.tells (meanings H.Host memory.old.disk.host.now) (meanings H.Host memory.new.disk.host.now) (row_for command.now) Running) }
+    ensures others { LeavesBut (roles_at Running) (meanings H.Host (loom_now memory.old)) (meanings H.Host (loom_now memory.new)) }
+    ensures refused { IfErr result (IsRefusal H.tells (meanings H.Host (loom_now memory.old)) (meanings H.Host (loom_now memory.new)) (row_for command.now) Running) }
 {
     match whole_run_observed(alloc, memory, events, command.steps, state, observer) {
         Ok(finished) => Ok(finished),
@@ -65,15 +65,15 @@ pub fn wind_up<H: Host>(
 ) -> Result<u32, Status>
     requires sound { IsSound H.Host memory.old }
     requires few { ran ≤ command.now.steps }
-    ensures ended { IsTrue (H.tells Role.Work) → IfOk result (λ next. HasEnded H.Host memory.new.disk.host.now memory.new.disk.rest next (loom_told H.Host memory.old).heap) }
+    ensures ended { IsTrue (H.tells Role.Work) → IfOk result (λ next. HasEnded H.Host (loom_now memory.new) (loom_rest memory.new) next (loom_told H.Host memory.old).heap) }
     ensures image { IsTrue (H.tells Role.Work) → OnOk result (IsImageHeap (kept (loom_told H.Host memory.old).heap no_roots)) }
     ensures even { IfOk result (λ next. next % 2 ≡ 0) }
     ensures limits { SameBounds (loom_told H.Host memory.old).bounds (loom_told H.Host memory.new).bounds }
     ensures silent { (loom_told H.Host memory.new).transcript ≡ (loom_told H.Host memory.old).transcript }
-    ensures file { IsTrue (H.tells Role.Work) → IsSameFile (H.roles memory.old.disk.host.now Role.Work) (H.roles memory.new.disk.host.now Role.Work) }
+    ensures file { IsTrue (H.tells Role.Work) → IsSameFile (H.roles (loom_now memory.old) Role.Work) (H.roles (loom_now memory.new) Role.Work) }
     ensures lender { loom_lender memory.new ≡ loom_lender memory.old }
-    ensures others { LeavesBut (roles_at Finishing) (meanings H.Host memory.old.disk.host.now) (meanings H.Host memory.new.disk.host.now) }
-    ensures refused { IfErr result (IsRefusal H.tells (meanings H.Host memory.old.disk.host.now) (meanings H.Host memory.new.disk.host.now) (row_for command.now) Finishing) }
+    ensures others { LeavesBut (roles_at Finishing) (meanings H.Host (loom_now memory.old)) (meanings H.Host (loom_now memory.new)) }
+    ensures refused { IfErr result (IsRefusal H.tells (meanings H.Host (loom_now memory.old)) (meanings H.Host (loom_now memory.new)) (row_for command.now) Finishing) }
 {
     match memory.wind_up() {
         Ok(next) => Ok(next),

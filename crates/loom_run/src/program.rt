@@ -10,7 +10,7 @@ ghost use Rattle.long_names.specs.Heap.{Heap};
 ghost use Rattle.disk_objects.specs.Disk.{disk_room};
 ghost use Rattle.image_reader.specs.Loaded.{heap_on};
 ghost use Rattle.image_memory.specs.Image.{HasEnded, HasImage};
-ghost use Rattle.loom_memory.specs.Memory.{loom_lender, loom_told, IsSound};
+ghost use Rattle.loom_memory.specs.Memory.{loom_lender, loom_now, loom_rest, loom_told, IsSound};
 ghost use Rattle.machine_run.specs.States.{model_state};
 ghost use Rattle.object_memory.specs.Told.{IsReady};
 ghost use Rattle.loom_words.specs.Command.{HasLimits, row_for};
@@ -182,14 +182,14 @@ fn run_memory<H: Host, O: Observer>(
     requires bounds { HasBounds (row_for command.now) (loom_told H.Host memory.old) }
     ensures counted { IfOk result (λ ended. HasCounted ended.finished.end ended.finished.ran command.now.steps) }
     ensures kept { IfOk result (λ ended. is_kept ended.finished.end ≡ false) }
-    ensures through { IfOk result (λ ended. (left : Heap) × (IsTrue (H.tells role.Work) → HasEnded H.Host memory.new.disk.host.now memory.new.disk.rest ended.next left)
-        × ((before : Meanings) (h : Heap) → Came H.tells before (meanings H.Host memory.old.disk.host.now) (row_for command.now) Listening state.now h events.now
+    ensures through { IfOk result (λ ended. (left : Heap) × (IsTrue (H.tells role.Work) → HasEnded H.Host (loom_now memory.new) (loom_rest memory.new) ended.next left)
+        × ((before : Meanings) (h : Heap) → Came H.tells before (meanings H.Host (loom_now memory.old)) (row_for command.now) Listening state.now h events.now
         → (IsTrue (H.tells role.Work) → BeginsImage h state.now (loom_told H.Host memory.old))
-        → Came H.tells before (meanings H.Host memory.new.disk.host.now) (row_for command.now) Finishing state.now h events.now
-        × (IsTrue (H.tells role.Work) → CameThrough H.tells before (meanings H.Host memory.new.disk.host.now) (row_for command.now) ended.finished left (course events.now command.now.steps (model_state state.now) h)))) }
-    ensures ends { IfErr result (λ status. (before : Meanings) (h : Heap) → Came H.tells before (meanings H.Host memory.old.disk.host.now) (row_for command.now) Listening state.now h events.now
+        → Came H.tells before (meanings H.Host (loom_now memory.new)) (row_for command.now) Finishing state.now h events.now
+        × (IsTrue (H.tells role.Work) → CameThrough H.tells before (meanings H.Host (loom_now memory.new)) (row_for command.now) ended.finished left (course events.now command.now.steps (model_state state.now) h)))) }
+    ensures ends { IfErr result (λ status. (before : Meanings) (h : Heap) → Came H.tells before (meanings H.Host (loom_now memory.old)) (row_for command.now) Listening state.now h events.now
         → (IsTrue (H.tells role.Work) → BeginsImage h state.now (loom_told H.Host memory.old))
-        → RunEnds H.tells before (meanings H.Host memory.new.disk.host.now) (row_for command.now) status) }
+        → RunEnds H.tells before (meanings H.Host (loom_now memory.new)) (row_for command.now) status) }
     ensures lender { loom_lender memory.new ≡ loom_lender memory.old }
 {
     let finished = run_machine(alloc, memory, events, state, command, observer)?;

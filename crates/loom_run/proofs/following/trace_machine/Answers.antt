@@ -3,7 +3,7 @@ use Rattle.loom_host.specs.declared.outside.Role.TheVariants.{Saved}
 use Rattle.blue_model.specs.Endings.{HasCounted}
 use Rattle.machine_run.specs.Run.{FaultsBy}
 use Rattle.machine_run.specs.States.{model_state}
-use Rattle.loom_memory.specs.Memory.{loom_outside, loom_told}
+use Rattle.loom_memory.specs.Memory.{loom_now, loom_outside, loom_told}
 use Rattle.loom_words.specs.Command.{row_for}
 use Rattle.loom_run.specs.Following.{EndsFollowed, FollowsAs, IsTraceRefusal}
 use Rattle.loom_run.specs.Meanings.{meanings}
@@ -49,7 +49,7 @@ returns-in-Err-clause-answer g c =
     let n = c.begin.new.m in
     let row = row_for c.args.command.now in
     let fresh = c.in-Err.ensures.ran in
-    subst (λ status. IsTraceRefusal host.tells (meanings host m.disk.host.now) (meanings host n.disk.host.now) row EndsFollowed status) (sym c.stopped.ensures)
+    subst (λ status. IsTraceRefusal host.tells (meanings host (loom_now m)) (meanings host (loom_now n)) row EndsFollowed status) (sym c.stopped.ensures)
     (followed-by host m n row c.begin.new.cpu.ran (omega (arith, fresh)) (bounds-later row (loom_told host m).bounds (loom_told host n).bounds c.requires.bounds c.in-Err.ensures.serves.later.bounds) c.in-Err.stop c.in-Err.ensures.fault)
 
 -- ---- the trace went through
@@ -91,7 +91,7 @@ returns-in-Ok-clause-answer g c =
     let row = row_for c.args.command.now in
     let fresh = c.in_default.ensures.ran in
     let few = c.trace.ensures.few in
-    subst (λ status. IsTraceRefusal host.tells (meanings host m.disk.host.now) (meanings host n.disk.host.now) row EndsFollowed status) (sym c.status_of_trace.ensures)
+    subst (λ status. IsTraceRefusal host.tells (meanings host (loom_now m)) (meanings host (loom_now n)) row EndsFollowed status) (sym c.status_of_trace.ensures)
     (followed-all host m n row c.trace.new.cpu.ran (omega (arith, fresh, few)) (bounds-later row (loom_told host m).bounds (loom_told host n).bounds c.requires.bounds (IsLater-trans (loom_told host m) (loom_told host mid) (loom_told host n) c.in_default.ensures.serves.later c.trace.ensures.later).bounds)
     mid c.in_default.ensures.fit.outside c.in_default.ensures.serves.later (Ok c.in-Ok.end) (let all : c.begin.new.cpu.ran + c.args.command.now.steps ≡ c.args.command.now.steps = omega (arith, fresh) in subst (λ n. HasCounted c.in-Ok.end c.trace.new.cpu.ran n) all c.in-Ok.ensures.counted) (kept-shut c.in-Ok.end c.at_rest-cpu.result c.begin.new.cpu c.at_rest-cpu.ensures c.in_default.ensures.serves.vault c.in-Ok.ensures.keeps) tt)
 
@@ -134,7 +134,7 @@ returns-in-Err-Stop-clause-answer g c =
     let row = row_for c.args.command.now in
     let fresh = c.in_default.ensures.ran in
     let few = c.trace.ensures.few in
-    subst (λ status. IsTraceRefusal host.tells (meanings host m.disk.host.now) (meanings host n.disk.host.now) row EndsFollowed status) (sym c.stopped-in-Err-Stop.ensures)
+    subst (λ status. IsTraceRefusal host.tells (meanings host (loom_now m)) (meanings host (loom_now n)) row EndsFollowed status) (sym c.stopped-in-Err-Stop.ensures)
     (followed-all host m n row c.trace.new.cpu.ran (omega (arith, fresh, few)) (bounds-later row (loom_told host m).bounds (loom_told host n).bounds c.requires.bounds (IsLater-trans (loom_told host m) (loom_told host mid) (loom_told host n) c.in_default.ensures.serves.later c.trace.ensures.later).bounds)
     mid c.in_default.ensures.fit.outside c.in_default.ensures.serves.later (Err (Stopping c.in-Err-Stop.stop)) tt tt (rw c.in-Err-Stop.field-0-is at c.in-Err-Stop.ensures.cause))
 

@@ -7,6 +7,7 @@ use Rattle.loom_words.specs.declared.status.Status.TheVariants as answer
 use Rattle.loom_run.specs.Following.{Followed, TraceEnds}
 use Rattle.loom_run.specs.Meanings.{meanings}
 use Rattle.loom_run.proofs.TracedRun.{followed-then, image-behind, unmade-end, unsaved-end}
+use Rattle.loom_memory.specs.Memory.{loom_now}
 use Rattle.loom_run.proofs.following.trace_under.Goals as goal
 
 pub returns-in-Err : goal.returns-in-Err
@@ -59,7 +60,7 @@ returns g c = record {
       let x = c.args.loaded.now in
       let row = row_for c.args.command.now in
       let heap = heap_on host old c.args.rest x.next in
-      let end = c.trace_machine-status.new.memory.disk.host.now in
+      let end = (loom_now c.trace_machine-status.new.memory) in
       let run = c.trace_machine-status.ensures in
       let status = c.trace_machine-status.result in
       let opened = rw c.again-disk.ensures.now at c.open_saved.ensures in

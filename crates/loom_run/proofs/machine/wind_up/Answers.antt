@@ -7,19 +7,20 @@ use Rattle.loom_run.specs.Meanings.{meanings}
 use Rattle.loom_run.specs.Stages.{Finishing}
 use Rattle.loom_run.specs.Steps.{IsRefusal}
 use Rattle.loom_run.proofs.MachineLaws.{file-left, outside-leaves, refused-lost}
+use Rattle.loom_memory.specs.Memory.{loom_now, loom_rest}
 use Rattle.loom_run.proofs.machine.wind_up.Goals as goal
 
 pub returns-in-Ok-clause-ended : goal.returns-in-Ok-clause-ended
 returns-in-Ok-clause-ended g c = λ work.
     let n = c.wind_up.new.self in
-    ended-is g.H.Host c.args.memory.now n.disk.host.now n.disk.rest c.in-Ok.next work c.requires.sound (c.in-Ok.ensures.kept work) c.in-Ok.ensures.next
+    ended-is g.H.Host c.args.memory.now (loom_now n) (loom_rest n) c.in-Ok.next work c.requires.sound (c.in-Ok.ensures.kept work) c.in-Ok.ensures.next
 
 pub returns-in-Ok-clause-image : goal.returns-in-Ok-clause-image
 returns-in-Ok-clause-image g c = λ work.
     let m = c.args.memory.now in
     let n = c.wind_up.new.self in
-    let ended = ended-is g.H.Host m n.disk.host.now n.disk.rest c.in-Ok.next work c.requires.sound (c.in-Ok.ensures.kept work) c.in-Ok.ensures.next in
-    image-kept g.H.Host m n.disk.host.now n.disk.rest c.in-Ok.next work c.requires.sound ended (omega arith)
+    let ended = ended-is g.H.Host m (loom_now n) (loom_rest n) c.in-Ok.next work c.requires.sound (c.in-Ok.ensures.kept work) c.in-Ok.ensures.next in
+    image-kept g.H.Host m (loom_now n) (loom_rest n) c.in-Ok.next work c.requires.sound ended (omega arith)
 
 pub returns-in-Ok-clause-even : goal.returns-in-Ok-clause-even
 returns-in-Ok-clause-even g c = subst (λ (n : ℕ). n % 2 ≡ 0) (sym c.in-Ok.ensures.next) c.requires.sound.over.based.even
@@ -40,5 +41,5 @@ pub returns-in-Err-clause-refused : goal.returns-in-Err-clause-refused
 returns-in-Err-clause-refused g c =
     let m = c.args.memory.now in
     let n = c.wind_up.new.self in
-    subst (λ status. IsRefusal g.H.Host.tells (meanings g.H.Host m.disk.host.now) (meanings g.H.Host n.disk.host.now) (row_for c.args.command.now) Finishing status) (sym c.status_of_fault.ensures)
+    subst (λ status. IsRefusal g.H.Host.tells (meanings g.H.Host (loom_now m)) (meanings g.H.Host (loom_now n)) (row_for c.args.command.now) Finishing status) (sym c.status_of_fault.ensures)
     (refused-lost g.H.Host m n (row_for c.args.command.now) c.args.ran c.in-Err.fault c.in-Err.ensures.lost c.in-Err.ensures.cause)
