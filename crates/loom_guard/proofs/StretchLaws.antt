@@ -37,7 +37,7 @@ use Rattle.guarded_run.proofs.LegLaws.{parked_same}
 use Rattle.guarded_run.proofs.SerialLaws.{serial_to_keep}
 use Rattle.guarded_run.proofs.WholeLaws.{kept_at_end, kept_stands}
 use Rattle.loom_memory.specs.declared.memory.LoomMemory.{LoomMemory}
-use Rattle.loom_memory.specs.Memory.{loom_told, IsSound}
+use Rattle.loom_memory.specs.Memory.{loom_now, loom_rest, loom_told, IsSound}
 use Rattle.loom_words.specs.Words.{Row}
 use Rattle.loom_words.specs.declared.status.Status.{Status}
 use Rattle.loom_words.specs.declared.status.Status.TheVariants as answer
@@ -178,16 +178,16 @@ refused-at (leg.Ended finished) tells old now row status r = r
 
 -- ---- a memory that was wound up
 
-pub room-of : {H : Type 0} (host : Ghosts H) (m : LoomMemory H) (row : Row) → HasBounds row (loom_told host m) → row.room ≡ disk_room m.disk.rest
+pub room-of : {H : Type 0} (host : Ghosts H) (m : LoomMemory H host) (row : Row) → HasBounds row (loom_told host m) → row.room ≡ disk_room (loom_rest m)
 unfolding loom_told
 room-of host m row bounds = sym bounds.2
 
-pub stopped-at : {H : Type 0} (host : Ghosts H) (n : LoomMemory H) (row : Row) (before : Meanings) (events : List Line) (g : Guarded) (serial : ℕ) (c : Course) (status : Status) → WasStopped (told_since (before.roles Transcript).put (loom_told host n)) (loom_told host n) row status c
-    → StopsAt (host.tells Transcript) row.steps events g c (before.roles Transcript).put (loom_told host n).transcript serial status → HaltsAt Running host.tells before (meanings host n.disk.host.now) row events g serial status c
+pub stopped-at : {H : Type 0} (host : Ghosts H) (n : LoomMemory H host) (row : Row) (before : Meanings) (events : List Line) (g : Guarded) (serial : ℕ) (c : Course) (status : Status) → WasStopped (told_since (before.roles Transcript).put (loom_told host n)) (loom_told host n) row status c
+    → StopsAt (host.tells Transcript) row.steps events g c (before.roles Transcript).put (loom_told host n).transcript serial status → HaltsAt Running host.tells before (meanings host (loom_now n)) row events g serial status c
 unfolding loom_told
 stopped-at host n row before events g serial c status was moment = (inl (record { stops = was.stops; says = was.says }), moment)
 
-module _ {H : Type 0} (host : Ghosts H) (n : LoomMemory H) (row : Row) (before : Meanings) (events : List Line) (g : Guarded) (serial : ℕ) (now : Cpu) (c : Course)
+module _ {H : Type 0} (host : Ghosts H) (n : LoomMemory H host) (row : Row) (before : Meanings) (events : List Line) (g : Guarded) (serial : ℕ) (now : Cpu) (c : Course)
     (work : IsTrue (host.tells Work)) (whole : HasWhole g) (same : course_on events row.steps g ≡ course_with_earlier (before.roles Transcript).put c) where
   abbrev t : Told
   t = loom_told host n
@@ -200,10 +200,10 @@ module _ {H : Type 0} (host : Ghosts H) (n : LoomMemory H) (row : Row) (before :
       (kept_at_end events row.steps g t whole (subst (λ (d : Course). OnParked d.ending (λ m. IsThinner m.heap t.heap)) (sym same) (earlier-parked (before.roles Transcript).put (λ m. IsThinner m.heap t.heap) c.ending went.heap)) ready work))
 
   -- the host at a later moment, when no more was said
-  module _ (k : LoomMemory H) (silent : (loom_told host k).transcript ≡ (loom_told host n).transcript) where
+  module _ (k : LoomMemory H host) (silent : (loom_told host k).transcript ≡ (loom_told host n).transcript) where
     -- what the leg's answer says of the run, when the memory is wound up
     pub leg-leaves : (x : Leg) → HasTick x → LegComes events g serial t now row (Ok x) (before.roles Transcript).put c → IsReady t → IsSound host n → HasBounds row t → IsImageHeap (kept t.heap no_roots)
-        → LegLeaves host.tells before (meanings host k.disk.host.now) row events g serial now x t.heap c
+        → LegLeaves host.tells before (meanings host (loom_now k)) row events g serial now x t.heap c
     unfolding loom_told
     leg-leaves (leg.Kept state) tick on ready sound bounds image =
         let kept = kept_stands events g serial t now on.parked whole on.keep ready work in record {
@@ -233,11 +233,11 @@ module _ {H : Type 0} (host : Ghosts H) (n : LoomMemory H) (row : Row) (before :
         )
 
     -- and why the run ended, where it couldn't be
-    stopped-keeping : (state : Words) (status : Status) → IsToGoOn events g serial t now state → now.ran ≤ row.steps → IsRefusal host.tells (meanings host n.disk.host.now) (meanings host k.disk.host.now) row Finishing status
-        → HaltsAt Running host.tells before (meanings host k.disk.host.now) row events g serial status c
+    stopped-keeping : (state : Words) (status : Status) → IsToGoOn events g serial t now state → now.ran ≤ row.steps → IsRefusal host.tells (meanings host (loom_now n)) (meanings host (loom_now k)) row Finishing status
+        → HaltsAt Running host.tells before (meanings host (loom_now k)) row events g serial status c
     unfolding loom_told
     stopped-keeping state status on few refused =
-        finishing-either (λ status. HaltsAt Running host.tells before (meanings host k.disk.host.now) row events g serial status c)
+        finishing-either (λ status. HaltsAt Running host.tells before (meanings host (loom_now k)) row events g serial status c)
         (λ count. (inl (record { stops = tt; says = λ speaks. (now.ran, few, at speaks) }), (now.ran, inr (record { few = few; said = at; done = done; next = next }))))
         (λ place name. (inl (record { stops = tt; says = λ speaks. (now.ran, few, at speaks) }), (now.ran, inr (record { few = few; said = at; done = done; next = next }))))
         status refused.answer
@@ -248,12 +248,12 @@ module _ {H : Type 0} (host : Ghosts H) (n : LoomMemory H) (row : Row) (before :
         next : serial_at (guarded_on events now.ran g) ≡ serial + 1
         next = serial_to_keep events g serial t now on.parked on.keep
 
-        at : IsTrue (host.tells Transcript) → (host.roles k.disk.host.now Transcript).put ≡ (before.roles Transcript).put ++ c.said now.ran
+        at : IsTrue (host.tells Transcript) → (host.roles (loom_now k) Transcript).put ≡ (before.roles Transcript).put ++ c.said now.ran
         at speaks = silent ∙ on.keep.stands.transcript speaks ∙ sym (said-to-keep events row.steps g serial t now on.parked on.keep) ∙ ap (λ (d : Course). d.said now.ran) same
 
     -- the stage at which it ended, by the leg
-    pub unwound : (x : Leg) (status : Status) → LegComes events g serial t now row (Ok x) (before.roles Transcript).put c → now.ran ≤ row.steps → IsRefusal host.tells (meanings host n.disk.host.now) (meanings host k.disk.host.now) row Finishing status
-        → HaltsAt (stage-of x) host.tells before (meanings host k.disk.host.now) row events g serial status c
+    pub unwound : (x : Leg) (status : Status) → LegComes events g serial t now row (Ok x) (before.roles Transcript).put c → now.ran ≤ row.steps → IsRefusal host.tells (meanings host (loom_now n)) (meanings host (loom_now k)) row Finishing status
+        → HaltsAt (stage-of x) host.tells before (meanings host (loom_now k)) row events g serial status c
     unfolding loom_told
     unwound (leg.Kept state) status on few refused = stopped-keeping state status on few refused
     unwound (leg.Ended finished) status came few refused = let went = came.0 in (record { parked = parked-of finished.end finished.ran c.ending went.parked; fits = went.fits; said = λ speaks. silent ∙ went.said speaks }, came.1)

@@ -18,7 +18,7 @@ ghost use Rattle.object_memory.specs.Contract.{IfBounds, IsLater};
 ghost use Rattle.object_memory.specs.Told.{IsReady};
 ghost use Rattle.guarded_run.specs.Course.{course_on, serial_at};
 ghost use Rattle.guarded_run.specs.Legs.{IsAt, Starts};
-ghost use Rattle.loom_memory.specs.Memory.{IsSound, loom_lender, loom_told};
+ghost use Rattle.loom_memory.specs.Memory.{loom_lender, loom_now, loom_told, IsSound};
 ghost use Rattle.loom_words.specs.Command.{row_for};
 ghost use Rattle.loom_run.specs.Meanings.{LeavesBut, meanings};
 ghost use Rattle.loom_run.specs.Stages.{Running, roles_at};
@@ -196,10 +196,10 @@ pub(crate) fn loom_leg<H: Host, O: Observer>(
     ensures bounds { HasBounds (row_for command.now) (loom_told H.Host memory.new) }
     ensures sound { OnOk result (IsSound H.Host memory.new) }
     ensures ready { OnOk result (IsReady (loom_told H.Host memory.new)) }
-    ensures file { IsTrue (H.tells role.Work) → IsSameFile (H.roles memory.old.disk.host.now role.Work) (H.roles memory.new.disk.host.now role.Work) }
+    ensures file { IsTrue (H.tells role.Work) → IsSameFile (H.roles (loom_now memory.old) role.Work) (H.roles (loom_now memory.new) role.Work) }
     ensures lender { loom_lender memory.new ≡ loom_lender memory.old }
-    ensures others { LeavesBut (roles_at Running) (meanings H.Host memory.old.disk.host.now) (meanings H.Host memory.new.disk.host.now) }
-    ensures refused { IfErr result (IsRefusal H.tells (meanings H.Host memory.old.disk.host.now) (meanings H.Host memory.new.disk.host.now) (row_for command.now) Running) }
+    ensures others { LeavesBut (roles_at Running) (meanings H.Host (loom_now memory.old)) (meanings H.Host (loom_now memory.new)) }
+    ensures refused { IfErr result (IsRefusal H.tells (meanings H.Host (loom_now memory.old)) (meanings H.Host (loom_now memory.new)) (row_for command.now) Running) }
 {
     match whole_leg(
         alloc,

@@ -11,7 +11,7 @@ ghost use Rattle.blue_model.specs.declared.limits.TheConstants.{LAST_SERIAL as l
 ghost use Rattle.blue_model.specs.Guarded.{Guarded};
 ghost use Rattle.blue_model.specs.Logs.{Course};
 ghost use Rattle.object_memory.specs.Told.{IsReady};
-ghost use Rattle.loom_memory.specs.Memory.{IsSound, loom_lender, loom_told};
+ghost use Rattle.loom_memory.specs.Memory.{loom_lender, loom_now, loom_rest, loom_told, IsSound};
 ghost use Rattle.loom_words.specs.Command.{HasLimits, row_for};
 ghost use Rattle.loom_run.specs.Meanings.{LeavesBut, Meanings, meanings};
 ghost use Rattle.loom_run.specs.Stages.{Running, roles_at};
@@ -49,19 +49,19 @@ fn wound_leg<H: Host, O: Observer>(
     requires begins { IsTrue (H.tells role.Work) → (h : Heap) × BeginsImage h state.now (loom_told H.Host memory.old) }
     requires bounds { HasBounds (row_for command.now) (loom_told H.Host memory.old) }
     requires few { cpu.old.ran ≤ command.now.steps }
-    ensures leaves { IfOk result (λ r. (left : Heap) × (IsTrue (H.tells role.Work) → HasEnded H.Host memory.new.disk.host.now memory.new.disk.rest r.1 left)
+    ensures leaves { IfOk result (λ r. (left : Heap) × (IsTrue (H.tells role.Work) → HasEnded H.Host (loom_now memory.new) (loom_rest memory.new) r.1 left)
         × (IsTrue (H.tells role.Work) → IsImageHeap (kept left no_roots))
         × ((before : Meanings) (g : Guarded) (c : Course) → FromMemory H.tells (row_for command.now) first events.now serial cpu.old (loom_told H.Host memory.old) state.now before g c
-        → LegLeaves H.tells before (meanings H.Host memory.new.disk.host.now) (row_for command.now) events.now g serial cpu.new r.0 left c)) }
+        → LegLeaves H.tells before (meanings H.Host (loom_now memory.new)) (row_for command.now) events.now g serial cpu.new r.0 left c)) }
     ensures even { IfOk result (λ r. r.1 % 2 ≡ 0) }
     ensures counted { IfOk result (λ r. IsCounted command.now.steps r.0) }
     ensures keeps { IfOk result (λ r. KeepsWhere (serial < last_serial) r.0) }
     ensures few { cpu.new.ran ≤ command.now.steps }
-    ensures room { command.now.room ≡ disk_room memory.new.disk.rest }
-    ensures file { IsTrue (H.tells role.Work) → IsSameFile (H.roles memory.old.disk.host.now role.Work) (H.roles memory.new.disk.host.now role.Work) }
+    ensures room { command.now.room ≡ disk_room (loom_rest memory.new) }
+    ensures file { IsTrue (H.tells role.Work) → IsSameFile (H.roles (loom_now memory.old) role.Work) (H.roles (loom_now memory.new) role.Work) }
     ensures lender { loom_lender memory.new ≡ loom_lender memory.old }
-    ensures others { LeavesBut (roles_at Running) (meanings H.Host memory.old.disk.host.now) (meanings H.Host memory.new.disk.host.now) }
-    ensures ends { IfErr result (Halts H.tells (meanings H.Host memory.old.disk.host.now) (meanings H.Host memory.new.disk.host.now) (row_for command.now) events.now
+    ensures others { LeavesBut (roles_at Running) (meanings H.Host (loom_now memory.old)) (meanings H.Host (loom_now memory.new)) }
+    ensures ends { IfErr result (Halts H.tells (meanings H.Host (loom_now memory.old)) (meanings H.Host (loom_now memory.new)) (row_for command.now) events.now
         (FromMemory H.tells (row_for command.now) first events.now serial cpu.old (loom_told H.Host memory.old) state.now) serial) }
 {
     let leg = loom_leg(

@@ -3,7 +3,7 @@ use Rattle.blue_model.specs.Logs.{Course}
 use Rattle.guarded_run.specs.Course.{course_on}
 use Rattle.machine_run.specs.Run.{HaltsAs}
 use Rattle.loom_host.specs.declared.outside.Role.TheVariants.{Transcript}
-use Rattle.loom_memory.specs.Memory.{loom_told}
+use Rattle.loom_memory.specs.Memory.{loom_now, loom_told}
 use Rattle.loom_words.specs.Command.{row_for}
 use Rattle.loom_run.specs.Meanings.{meanings}
 use Rattle.loom_run.specs.Stages.{Running}
@@ -57,7 +57,7 @@ returns-in-Err-clause-refused g c =
     let m = c.args.memory.now in
     let n = c.whole_leg.new.m in
     let row = row_for c.args.command.now in
-    subst (λ status. IsRefusal g.H.Host.tells (meanings g.H.Host m.disk.host.now) (meanings g.H.Host n.disk.host.now) row Running status) (sym c.status_of.ensures)
+    subst (λ status. IsRefusal g.H.Host.tells (meanings g.H.Host (loom_now m)) (meanings g.H.Host (loom_now n)) row Running status) (sym c.status_of.ensures)
     (refused-running g.H.Host m n row c.in-Err.halted.ran c.in-Err.ensures.ran (bounds-later row (loom_told g.H.Host m).bounds (loom_told g.H.Host n).bounds c.requires.bounds c.whole_leg.ensures.later.bounds) c.in-Err.halted.why c.in-Err.ensures.fault)
 
 pub returns-in-Err-clause-moment : goal.returns-in-Err-clause-moment

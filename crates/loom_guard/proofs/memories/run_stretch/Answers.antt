@@ -4,7 +4,7 @@ use Rattle.loom_host.specs.declared.outside.Role.TheVariants.{Work, Transcript}
 use Rattle.disk_objects.specs.declared.rest.DiskRest.{DiskRest}
 use Rattle.image_reader.specs.Loaded.{heap_on}
 use Rattle.image_memory.specs.Image.{HasEnded}
-use Rattle.loom_memory.specs.Memory.{loom_told}
+use Rattle.loom_memory.specs.Memory.{loom_now, loom_told}
 use Rattle.loom_words.specs.Command.{row_for}
 use Rattle.loom_run.specs.Meanings.{LeavesBut, meanings}
 use Rattle.loom_run.specs.Stages.{Running, roles_at}
@@ -29,17 +29,17 @@ returns-in-Ok-wound-clause-leaves g c =
     let x = c.args.loaded.now in
     let row = row_for c.args.command.now in
     let t = loom_told host c.begin_memory-memory.result in
-    let end = c.wound_leg-wound.new.memory.disk in
+    let end = loom_now c.wound_leg-wound.new.memory in
     let through = c.in-Ok-wound.ensures.leaves in
     let rest = c.apart-host.ensures.rest ∙ c.into_disk.ensures.rest in
     let back = c.apart-host.ensures.now ∙ c.into_disk.ensures.now in
     let name = c.apart-host.ensures.host ∙ c.into_disk.ensures.host ∙ c.wound_leg-wound.ensures.lender ∙ c.begin_memory-memory.ensures.lender ∙ c.again-disk.ensures.host in (
       through.0,
-      λ work. same-host end.host.now c.apart-host.result.0.now _ (λ h. HasEnded host h c.apart-host.result.1 c.in-Ok-wound.next through.0) (search (rules, sym name)) back
-          (subst (λ (r : DiskRest). HasEnded host end.host.now r c.in-Ok-wound.next through.0) (sym rest) (through.1 work)),
+      λ work. same-host end c.apart-host.result.0.now _ (λ h. HasEnded host h c.apart-host.result.1 c.in-Ok-wound.next through.0) (search (rules, sym name)) back
+          (subst (λ (r : DiskRest). HasEnded host end r c.in-Ok-wound.next through.0) (sym rest) (through.1 work)),
       through.2,
       λ before run course from.
-          same-host end.host.now c.apart-host.result.0.now _ (λ h. LegLeaves host.tells before (meanings host h) row c.args.events.now run c.args.serial c.wound_leg-wound.new.cpu c.in-Ok-wound.leg through.0 course) (search (rules, sym name)) back
+          same-host end c.apart-host.result.0.now _ (λ h. LegLeaves host.tells before (meanings host h) row c.args.events.now run c.args.serial c.wound_leg-wound.new.cpu c.in-Ok-wound.leg through.0 course) (search (rules, sym name)) back
           (through.3 before run course
           (from-memory host c.args.host.now d.host.now c.args.rest d.rest x row c.args.first c.args.events.now c.args.serial c.args.cpu.now t c.again-disk.ensures.now c.again-disk.ensures.rest c.requires.image c.begin_memory-memory.ensures.begins c.begin_memory-memory.ensures.transcript before run course from)),
     )
@@ -47,7 +47,7 @@ returns-in-Ok-wound-clause-leaves g c =
 pub returns-in-Ok-wound-clause-file : goal.returns-in-Ok-wound-clause-file
 returns-in-Ok-wound-clause-file g c = λ work.
     let host = g.H.Host in
-    let end = c.wound_leg-wound.new.memory.disk.host.now in
+    let end = (loom_now c.wound_leg-wound.new.memory) in
     let back = c.apart-host.ensures.now ∙ c.into_disk.ensures.now in
     let name = c.apart-host.ensures.host ∙ c.into_disk.ensures.host ∙ c.wound_leg-wound.ensures.lender ∙ c.begin_memory-memory.ensures.lender ∙ c.again-disk.ensures.host in
     same-host end c.apart-host.result.0.now _ (λ h. IsSameFile (host.roles c.args.host.now Work) (host.roles h Work)) (search (rules, sym name)) back
@@ -56,7 +56,7 @@ returns-in-Ok-wound-clause-file g c = λ work.
 pub returns-in-Ok-wound-clause-others : goal.returns-in-Ok-wound-clause-others
 returns-in-Ok-wound-clause-others g c =
     let host = g.H.Host in
-    let end = c.wound_leg-wound.new.memory.disk.host.now in
+    let end = (loom_now c.wound_leg-wound.new.memory) in
     let back = c.apart-host.ensures.now ∙ c.into_disk.ensures.now in
     let name = c.apart-host.ensures.host ∙ c.into_disk.ensures.host ∙ c.wound_leg-wound.ensures.lender ∙ c.begin_memory-memory.ensures.lender ∙ c.again-disk.ensures.host in
     same-host end c.apart-host.result.0.now _ (λ h. LeavesBut (roles_at Running) (meanings host c.args.host.now) (meanings host h)) (search (rules, sym name)) back
@@ -65,7 +65,7 @@ returns-in-Ok-wound-clause-others g c =
 pub returns-in-Err-clause-file : goal.returns-in-Err-clause-file
 returns-in-Err-clause-file g c = λ work.
     let host = g.H.Host in
-    let end = c.wound_leg-wound.new.memory.disk.host.now in
+    let end = (loom_now c.wound_leg-wound.new.memory) in
     let back = c.apart-host.ensures.now ∙ c.into_disk.ensures.now in
     let name = c.apart-host.ensures.host ∙ c.into_disk.ensures.host ∙ c.wound_leg-wound.ensures.lender ∙ c.begin_memory-memory.ensures.lender ∙ c.again-disk.ensures.host in
     same-host end c.apart-host.result.0.now _ (λ h. IsSameFile (host.roles c.args.host.now Work) (host.roles h Work)) (search (rules, sym name)) back
@@ -74,7 +74,7 @@ returns-in-Err-clause-file g c = λ work.
 pub returns-in-Err-clause-others : goal.returns-in-Err-clause-others
 returns-in-Err-clause-others g c =
     let host = g.H.Host in
-    let end = c.wound_leg-wound.new.memory.disk.host.now in
+    let end = (loom_now c.wound_leg-wound.new.memory) in
     let back = c.apart-host.ensures.now ∙ c.into_disk.ensures.now in
     let name = c.apart-host.ensures.host ∙ c.into_disk.ensures.host ∙ c.wound_leg-wound.ensures.lender ∙ c.begin_memory-memory.ensures.lender ∙ c.again-disk.ensures.host in
     same-host end c.apart-host.result.0.now _ (λ h. LeavesBut (roles_at Running) (meanings host c.args.host.now) (meanings host h)) (search (rules, sym name)) back
@@ -87,7 +87,7 @@ returns-in-Err-clause-ends g c =
     let x = c.args.loaded.now in
     let row = row_for c.args.command.now in
     let t = loom_told host c.begin_memory-memory.result in
-    let end = c.wound_leg-wound.new.memory.disk.host.now in
+    let end = (loom_now c.wound_leg-wound.new.memory) in
     let status = c.in-Err.status in
     let back = c.apart-host.ensures.now ∙ c.into_disk.ensures.now in
     let name = c.apart-host.ensures.host ∙ c.into_disk.ensures.host ∙ c.wound_leg-wound.ensures.lender ∙ c.begin_memory-memory.ensures.lender ∙ c.again-disk.ensures.host in
