@@ -17,7 +17,9 @@
 mod counting;
 mod logging;
 
+ghost use Rattle.loom_memory.specs.Memory.{IsSound, loom_told};
 ghost use Rattle.object_memory.specs.Calls.{IsFit};
+ghost use Rattle.object_memory.specs.Told.{IsReady};
 
 use crate::counting::CountingHost;
 use crate::logging::{Log, LoggedMemory};
@@ -77,6 +79,22 @@ fn spin<M: ObjectMemory>(m: &mut M, alloc: Global, steps: u32) -> Result<(), Sto
     Ok(())
 }
 
+/// Runs so many bytecodes over a memory of two levels, and logs what they touch.
+fn spin_logged<'h, H: Host>(
+    inner: LoomMemory<'h, H>,
+    log: Log,
+    alloc: Global,
+    steps: u32,
+) -> Option<(LoomMemory<'h, H>, Log)>
+    requires sound { IsSound H.Host inner }
+    requires ready { IsReady (loom_told H.Host inner) }
+{
+    let mut memory = LoggedMemory { inner, log };
+    spin(&mut memory, alloc, steps).ok()?;
+    let LoggedMemory { inner, log } = memory;
+    Some((inner, log))
+}
+
 /// What a run asked of its memory.
 #[derive(Clone, Copy)]
 struct Costs {
@@ -108,9 +126,7 @@ fn run_over(alloc: Global, host: &mut CountingHost, job: Job, room: usize) -> Op
         return None;
     };
     let log = Log::new(alloc, room).ok()?;
-    let mut memory = LoggedMemory { inner, log };
-    spin(&mut memory, alloc, job.steps).ok()?;
-    let LoggedMemory { inner, log } = memory;
+    let (inner, log) = spin_logged(inner, log, alloc, job.steps)?;
     let fetches = inner.fetches();
     let host = inner.into_disk().into_host();
     let costs = Costs {
