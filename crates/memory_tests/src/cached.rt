@@ -1,5 +1,7 @@
 // Rows of the method cache: a row is put and found, and goes where a marked object is stored into or leaves the core.
+ghost use Rattle.loom_memory.specs.Memory.{loom_told, IsSound};
 ghost use Rattle.object_memory.specs.Calls.{IsFit};
+ghost use Rattle.object_memory.specs.Told.{IsReady};
 
 use crate::calls::is_cached;
 use crate::runs::host_with;
@@ -8,6 +10,7 @@ use contexts::Stop;
 use disk_objects::DiskObjects;
 use image_reader::load;
 use loom_memory::LoomMemory;
+use loom_outside::Host;
 use object_memory::ObjectMemory;
 use sample_images::NEXT;
 use std::alloc::Global;
@@ -131,6 +134,14 @@ fn goes<M: ObjectMemory>(m: &mut M, row: &Row) -> Result<bool, Stop>
     Ok(is_cached(m, R::A.reg()) == row.stays)
 }
 
+// The same over a memory of two levels.
+fn goes_in<H: Host>(m: &mut LoomMemory<'_, H>, row: &Row) -> Result<bool, Stop>
+    requires sound { IsSound H.Host m.old }
+    requires ready { IsReady (loom_told H.Host m.old) }
+{
+    goes(m, row)
+}
+
 // The same, over a memory of its own.
 fn is_right(alloc: Global, row: &Row) -> Result<bool, Fail> {
     let mut host = host_with(alloc, NEXT, 0, 0, 0)?;
@@ -139,7 +150,7 @@ fn is_right(alloc: Global, row: &Row) -> Result<bool, Fail> {
         return Err("the image is loaded".into());
     };
     let mut m = LoomMemory::make(alloc, disk, NEXT, 512, 160)?;
-    Ok(goes(&mut m, row)?)
+    Ok(goes_in(&mut m, row)?)
 }
 
 // The first row that comes out otherwise.

@@ -1,5 +1,7 @@
 // Lookups along a chain of classes: what was found is cached, until an object that the lookup looked at is stored into or leaves the core.
+ghost use Rattle.loom_memory.specs.Memory.{loom_told, IsSound};
 ghost use Rattle.object_memory.specs.Calls.{IsFit};
+ghost use Rattle.object_memory.specs.Told.{IsReady};
 ghost use Rattle.contexts.specs.Calls.{StaysFit};
 
 use crate::calls::make;
@@ -14,6 +16,7 @@ use disk_objects::DiskObjects;
 use image_reader::load;
 use long_names::Name;
 use loom_memory::LoomMemory;
+use loom_outside::Host;
 use object_memory::{ObjectMemory, Reg};
 use sample_images::NEXT;
 use send_lookup::find;
@@ -251,6 +254,22 @@ fn is_along<M: ObjectMemory>(m: &mut M, chain: &Chain) -> Result<bool, Stop>
     Ok(is_found(m)? && is_cached(m) == chain.cached)
 }
 
+/// A row over a memory of two levels.
+fn goes_in<H: Host>(m: &mut LoomMemory<'_, H>, row: &Row) -> Result<bool, Stop>
+    requires sound { IsSound H.Host m.old }
+    requires ready { IsReady (loom_told H.Host m.old) }
+{
+    goes(m, row)
+}
+
+/// A chain over a memory of two levels.
+fn is_along_in<H: Host>(m: &mut LoomMemory<'_, H>, chain: &Chain) -> Result<bool, Stop>
+    requires sound { IsSound H.Host m.old }
+    requires ready { IsReady (loom_told H.Host m.old) }
+{
+    is_along(m, chain)
+}
+
 /// A row over a memory of its own.
 fn is_right(alloc: Global, row: &Row) -> Result<bool, Fail> {
     let mut host = host_with(alloc, NEXT, 0, 0, 0)?;
@@ -259,7 +278,7 @@ fn is_right(alloc: Global, row: &Row) -> Result<bool, Fail> {
         return Err("the image is loaded".into());
     };
     let mut m = LoomMemory::make(alloc, disk, NEXT, 65_536, 512)?;
-    Ok(goes(&mut m, row)?)
+    Ok(goes_in(&mut m, row)?)
 }
 
 /// A chain over a memory of its own.
@@ -271,7 +290,7 @@ fn is_right_along(alloc: Global, chain: &Chain) -> Result<bool, Fail> {
     };
     let core = if chain.is_large { 65_536 } else { 4_096 };
     let mut m = LoomMemory::make(alloc, disk, NEXT, core, 2_048)?;
-    Ok(is_along(&mut m, chain)?)
+    Ok(is_along_in(&mut m, chain)?)
 }
 
 /// The first row that comes out otherwise.

@@ -1,7 +1,9 @@
 // Runs of steps over a memory of two levels and over one that is one map: what differs, and what is left.
 ghost use Rattle.std.specs.Prelude.{All, OnOk};
 ghost use Rattle.long_names.specs.Objects.{IsRecord};
+ghost use Rattle.loom_memory.specs.Memory.{loom_told, IsSound};
 ghost use Rattle.object_memory.specs.Calls.{IsFit};
+ghost use Rattle.object_memory.specs.Told.{IsReady};
 
 use crate::steps::{Step, take};
 use contexts::Stop;
@@ -114,6 +116,20 @@ fn agree_all<M: ObjectMemory, P: ObjectMemory>(
     agree(m, plain, run.last, run.purges)
 }
 
+// The same over a memory of two levels.
+fn agree_in<H: Host, P: ObjectMemory>(
+    m: &mut LoomMemory<'_, H>,
+    plain: &mut P,
+    run: &Run,
+) -> Result<bool, Stop>
+    requires sound { IsSound H.Host m.old }
+    requires ready { IsReady (loom_told H.Host m.old) }
+    requires plain { IsFit P.ObjectMemory plain.old }
+    ensures sound { OnOk result (IsSound H.Host m.new) }
+{
+    agree_all(m, plain, run)
+}
+
 // A host with the base image and an empty Work, of which a call may fail, and a read may lie, counted from 1; 0 for none.
 pub(crate) fn host_with(
     alloc: Global,
@@ -170,7 +186,7 @@ pub(crate) fn ends(alloc: Global, host: &mut LyingHost, run: &Run) -> Result<End
     }
     let mut m = LoomMemory::make(alloc, disk, run.next, core, run.entries)?;
     let mut plain = memory(alloc, &base(alloc)?, run.next)?;
-    match agree_all(&mut m, &mut plain, run) {
+    match agree_in(&mut m, &mut plain, run) {
         Ok(true) => {}
         Ok(false) => return Ok(End::Differs),
         Err(Stop::Mem(fault)) => return Ok(End::Refused(fault)),
