@@ -2,7 +2,7 @@
 # All tests that aren't in the gate, one after the other: the documents themselves and the commands that they show, the examples, the cases of the
 # reference machine over real files, and the program on real files and streams, with kills, losses, faults and large runs.
 #
-#     tests/all.sh [-q] [PART..]      PART: docs, reading, examples, typed, cases, edge, vaults, kills, losses, faults, large, desk, quick;
+#     tests/all.sh [-q] [PART..]      PART: docs, reading, examples, typed, cases, edge, vaults, kills, losses, faults, large, desk, build, quick;
 #                                 all without one
 #
 # The programs are ./loom and ./st80, which ./demo builds; LOOM, ST80, FILE_CASES and FAULT_RUNS may name others. Prints each part's lines, with -q only
@@ -16,7 +16,7 @@ if [ "${1-}" = -q ]; then
     quiet=yes
     shift
 fi
-parts=${*:-docs reading examples typed cases edge vaults kills losses faults large desk quick}
+parts=${*:-docs reading examples typed cases edge vaults kills losses faults large desk build quick}
 
 # first NAME..: the first of these programs that is there; the first name where none is.
 first() {
@@ -129,7 +129,12 @@ else
     part faults tests/faults.sh "$loom" "$fault_runs"
     part large tests/large.sh "$loom"
 fi
-if [ -x "$st80" ]; then part desk tests/desk.sh "$st80"; else skip desk "there is no program $st80; ./demo builds it"; fi
+if [ -x "$st80" ]; then
+    part desk tests/desk.sh "$st80"
+    part build tests/build.sh "$st80"
+else
+    for name in desk build; do skip $name "there is no program $st80; ./demo builds it"; done
+fi
 if [ -x "$file_cases" ]; then part cases cases_on_files; else skip cases "there is no program $file_cases; rt ci builds it"; fi
 if command -v rt >/dev/null; then part quick picture_first; else skip quick "the kit's command rt isn't on the path"; fi
 

@@ -3,7 +3,7 @@
 #
 #     tests/docs.sh            the last line is 'N passed, N failed'
 #
-# The pages for people (README, DESK, PROGRAM, IMAGE, STATUS and PROMISE) have no sentence of more than 40 words, where code counts as one word and a
+# The pages for people (README, DESK, BUILD, PROGRAM, IMAGE, STATUS and PROMISE) have no sentence of more than 40 words, where code counts as one word and a
 # cell of a table or an item of a list stands by itself, and none of the phrases that their readers stumbled over.
 set -u
 cd "$(dirname "$0")/.." || exit 1
@@ -25,7 +25,7 @@ judge() {
 
 found=$(mktemp)
 trap 'rm -f "$found"' EXIT
-pages="README.md docs/DESK.md docs/PROGRAM.md docs/IMAGE.md docs/STATUS.md docs/PROMISE.md"
+pages="README.md docs/DESK.md docs/BUILD.md docs/PROGRAM.md docs/IMAGE.md docs/STATUS.md docs/PROMISE.md"
 
 # long FILE: its sentences of more than 40 words, each with the number of its words and the line that its paragraph ends at.
 long() {

@@ -1,5 +1,5 @@
 #!/usr/bin/env bash
-# Types each command of README, DESK, PROGRAM, TOUR and the page of the examples as it stands, and compares what comes out with what the page shows.
+# Types each command of README, DESK, BUILD, PROGRAM, TOUR and the page of the examples as it stands, and compares what comes out with what the page shows.
 #
 #     tests/typed.sh [PROGRAM [PAGE..]]
 #
@@ -12,7 +12,7 @@ loom=$(realpath "${1:-$top/loom}") || exit 1
 st80=$(realpath "${ST80:-$top/st80}") || exit 1
 [ -x "$loom" ] || { echo "typed: there is no program $loom; ./demo builds it" >&2; exit 1; }
 [ $# -gt 0 ] && shift
-[ $# -gt 0 ] || set -- README.md docs/DESK.md docs/PROGRAM.md docs/TOUR.md examples/README.md
+[ $# -gt 0 ] || set -- README.md docs/DESK.md docs/BUILD.md docs/PROGRAM.md docs/TOUR.md examples/README.md
 work=$(mktemp -d) || exit 1
 trap 'rm -rf "$work"' EXIT
 

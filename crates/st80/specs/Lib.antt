@@ -2,3 +2,4 @@ pub mod Ends
 pub mod Rows
 pub mod Paths
 pub mod Runs
+pub mod Building

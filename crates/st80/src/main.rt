@@ -10,7 +10,8 @@
 //! - Proved: It ends, nothing panics, and the exit code is one of the table in `specs/Codes.antt` (of st80_files). Each row that it runs is one that
 //!   `loom` finds right, in which each role has the file that was asked for it, and the numbers are those that were asked for (`specs/Runs.antt`,
 //!   `specs/Paths.antt`). A command that runs one ends with the code of `loom` for how that run ended, or says what else failed (`specs/Ends.antt`).
-//! - Tested: What it says, shows, writes and touches, on real files and streams, with more than a hundred mistakes (`tests/desk.sh`).
+//!   What `build` and `eval` make of sources is an image of the texts that were asked for (`specs/Building.antt`).
+//! - Tested: What it says, shows, writes and touches, on real files and streams, with more than a hundred mistakes (`tests/desk.sh`, `tests/build.sh`).
 //! - Not said: What files and streams do, and the texts. That a command's own code becomes that of the process is read in the code.
 #![tactic(auto)]
 
@@ -20,6 +21,7 @@ ghost use Rattle.st80_files.specs.Codes.{number_of};
 ghost use Rattle.st80_files.specs.declared.codes.Code.{Code};
 
 mod apart;
+mod building;
 mod converting;
 mod paths;
 mod rows;
@@ -30,6 +32,7 @@ mod tracing;
 mod why;
 
 use apart::{expect_apart, file_of};
+use building::{build, evaluate};
 use converting::{Way, between, make};
 use rows::Source;
 use running::run;
@@ -106,6 +109,14 @@ fn answer_in(rt: HostRuntime, room: &Temporary, request: &Request<'_>) -> Result
         Request::Diff { a, b, names } => compare(rt, a, b, names),
         Request::Check { file, names } => check(rt, file, names),
         Request::Trace { image, tracing } => follow(rt, room, image, &tracing),
+        Request::Build { ref sources, image } => {
+            build(rt, sources, None, image)?;
+            Ok(Code::Well)
+        }
+        Request::Evaluate {
+            statements,
+            ref sources,
+        } => Ok(evaluate(rt, room, sources, statements)?.code),
         Request::Manual => print(rt, &manual_text(rt.alloc())?),
         Request::Codes => print(rt, &codes_text(rt.alloc())?),
     }

@@ -11,7 +11,7 @@
 //! Classes have the fields of chapter 27 first and then those of chapter 16, the name at field 6; a metaclass has its class there. Symbols are unique.
 //!
 //! - Proved: What is answered as an image is one. Where a method has no code, that is the method, and why.
-//! - Tested: Nothing yet: no program stands on it.
+//! - Tested: Which image it is, by runs of it (`tests/build.sh`).
 //! - Not said: Which image it is, and that out of memory has a cause.
 #![tactic(auto)]
 

@@ -10,7 +10,7 @@
 //! instruction's bytes, short forms first, `specs/Frame.antt` a tree's literals, and `specs/Compiled.antt` puts them together.
 //!
 //! - Proved: The code and the literals are those of the definition, or the refusal is the first that it has.
-//! - Tested: Nothing yet in the gate.
+//! - Tested: What the code does, by runs of images (`tests/build.sh`).
 //! - Not said: That code does what its tree means. Nothing is optimized beyond short forms, special sends, and jumps.
 #![tactic(auto)]
 

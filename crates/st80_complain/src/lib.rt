@@ -7,7 +7,7 @@
 //!     ^
 //!
 //! - Proved: It is safe and returns. What is said begins with the file, the line and the column of the place.
-//! - Tested: Nothing yet: no program stands on it.
+//! - Tested: What is said (`tests/build.sh`).
 //! - Not said: The texts.
 #![tactic(auto)]
 

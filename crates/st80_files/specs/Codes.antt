@@ -1,7 +1,7 @@
 -- The exit codes: those of `loom`, and those of st80 alone, from 20 on.
 use Rattle.std.specs.Prelude.{◌≡◌, ◌⊎◌, ℕ, List, [], ◌∷◌, codes}
 use Rattle.st80_files.specs.declared.codes.Code.{Code}
-use Rattle.st80_files.specs.declared.codes.Code.TheVariants.{Well, NoStreams, Words, ImageBad, EventsBad, Stuck, CoreFull, NamesSpent, WorkFull, ReadFault, WorkFault, WriteFault, OutOfMemory, Damaged, VaultFault, NoCheckpoint, VaultBad, TextBad, CantWrite, CantRead, NoTemporary, NotThere, Differs}
+use Rattle.st80_files.specs.declared.codes.Code.TheVariants.{Well, NoStreams, Words, ImageBad, EventsBad, Stuck, CoreFull, NamesSpent, WorkFull, ReadFault, WorkFault, WriteFault, OutOfMemory, Damaged, VaultFault, NoCheckpoint, VaultBad, TextBad, CantWrite, CantRead, NoTemporary, NotThere, Differs, SourceBad}
 use Rattle.st80_files.specs.declared.failure.Failure.{Failure}
 use Rattle.st80_files.specs.declared.failure.Failure.TheVariants.{Memory, Told}
 
@@ -29,10 +29,11 @@ number_of CantRead = 21
 number_of NoTemporary = 22
 number_of NotThere = 23
 number_of Differs = 24
+number_of SourceBad = 25
 
 -- all of them, by rising number
 abbrev pub all_codes : List Code
-all_codes = Well ∷ NoStreams ∷ Words ∷ ImageBad ∷ EventsBad ∷ Stuck ∷ CoreFull ∷ NamesSpent ∷ WorkFull ∷ ReadFault ∷ WorkFault ∷ WriteFault ∷ OutOfMemory ∷ Damaged ∷ VaultFault ∷ NoCheckpoint ∷ VaultBad ∷ TextBad ∷ CantWrite ∷ CantRead ∷ NoTemporary ∷ NotThere ∷ Differs ∷ []
+all_codes = Well ∷ NoStreams ∷ Words ∷ ImageBad ∷ EventsBad ∷ Stuck ∷ CoreFull ∷ NamesSpent ∷ WorkFull ∷ ReadFault ∷ WorkFault ∷ WriteFault ∷ OutOfMemory ∷ Damaged ∷ VaultFault ∷ NoCheckpoint ∷ VaultBad ∷ TextBad ∷ CantWrite ∷ CantRead ∷ NoTemporary ∷ NotThere ∷ Differs ∷ SourceBad ∷ []
 
 -- when each comes
 abbrev pub when_of : Code → List ℕ
@@ -59,6 +60,7 @@ when_of CantRead = codes "a file can't be read, or is of another kind"
 when_of NoTemporary = codes "the temporary folder can't be used"
 when_of NotThere = codes "what was to be shown isn't in the image"
 when_of Differs = codes "the images differ"
+when_of SourceBad = codes "a source file is wrong: what is said names the file, the line and the column"
 
 -- ---- failures
 

@@ -32,6 +32,7 @@ pub enum Code {
     NoTemporary,
     NotThere,
     Differs,
+    SourceBad,
 }
 
 impl Code {
@@ -63,6 +64,7 @@ impl Code {
             Code::NoTemporary => 22,
             Code::NotThere => 23,
             Code::Differs => 24,
+            Code::SourceBad => 25,
         }
     }
 
@@ -95,6 +97,8 @@ impl Code {
             Code::NoTemporary => "the temporary folder can't be used",
             Code::NotThere => "what was to be shown isn't in the image",
             Code::Differs => "the images differ",
+            Code::SourceBad =>
+                "a source file is wrong: what is said names the file, the line and the column",
         }
     }
 }
@@ -124,6 +128,7 @@ pub const ALL: &[Code] = &[
     Code::NoTemporary,
     Code::NotThere,
     Code::Differs,
+    Code::SourceBad,
 ];
 
 /// These are all of them.

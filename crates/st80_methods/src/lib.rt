@@ -9,7 +9,7 @@
 //! Read `specs/MethodObjects.antt` first.
 //!
 //! - Proved: The body is that definition's. Where the pool lacks a literal, there is none.
-//! - Tested: Nothing yet in the gate.
+//! - Tested: What the code does, by runs of images (`tests/build.sh`).
 //! - Not said: That the body fits an image: who builds one asks.
 #![tactic(auto)]
 

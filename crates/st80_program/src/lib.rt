@@ -10,7 +10,7 @@
 //!
 //! - Proved: It is safe and returns. Each class stands behind its superclass, under a name of its own, and each method has a class (`IsProgram`).
 //!   Each method has its tree, no class has two methods of one selector, and each message has a selector that some method has (`AreOf`).
-//! - Tested: Nothing yet: no program stands on it.
+//! - Tested: What is refused, and where (`tests/build.sh`).
 //! - Not said: What texts are read as, beyond that.
 #![tactic(auto)]
 

@@ -12,7 +12,7 @@
 //!
 //! - Proved: It is safe and returns. A name stands for its innermost declaration (`declaration_of`). The arguments of a method are the first of its
 //!   temporaries, of which there are at most 31. The name that was probably meant is one of those that are known.
-//! - Tested: Nothing yet: no program stands on it.
+//! - Tested: What is refused, and where (`tests/build.sh`).
 //! - Not said: That a tree means what its text says.
 #![tactic(auto)]
 

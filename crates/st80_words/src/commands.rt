@@ -4,7 +4,7 @@ use clap::{Arg, ArgAction, Command};
 use std::alloc::{AllocError, Global};
 
 // How a word stands on the line.
-#[derive(Clone, Copy, Debug, PartialEq, Eq)]
+#[derive(Clone, Copy)]
 enum Shape {
     // By its place, and it has to be there.
     Word,
@@ -12,6 +12,10 @@ enum Shape {
     MaybeWord,
     // Any number of words, behind the others.
     Words,
+    // The same, and one at least has to be there.
+    SomeWords,
+    // Behind `-o`, and it has to be there.
+    Output,
     // Behind `--` and its name.
     Value,
     // Two words behind `--` and its name.
@@ -21,7 +25,7 @@ enum Shape {
 }
 
 // A word of a command.
-#[derive(Clone, Copy, Debug)]
+#[derive(Clone, Copy)]
 struct Part {
     // what it is asked for by, and of an option the name behind `--`
     id: &'static str,
@@ -32,7 +36,7 @@ struct Part {
 }
 
 // A command.
-#[derive(Clone, Copy, Debug)]
+#[derive(Clone, Copy)]
 struct Entry {
     name: &'static str,
     about: &'static str,
@@ -232,6 +236,62 @@ const MAKE: Entry = Entry {
     shared: NO_PARTS,
 };
 
+const KERNEL: &[Part] = &[part!(
+    Value,
+    "kernel",
+    "FOLDER",
+    "The folder of the kernel's sources [default: the folder kernel beside the program, or here]"
+)];
+
+const BUILD: Entry = Entry {
+    name: "build",
+    about: "Make an image from sources in Smalltalk",
+    examples: "Examples:
+  st80 build factorial.st -o factorial.loom        the classes of the kernel, and what is in factorial.st
+  st80 build shapes.st main.st -o shapes.loom      one source file after the other
+  st80 build --bare own.st -o own.loom             without the kernel
+  st80 run factorial.loom",
+    parts: &[
+        part!(
+            SomeWords,
+            "source",
+            "SOURCE",
+            "The source files; - is standard input"
+        ),
+        part!(
+            Output,
+            "output",
+            "IMAGE",
+            "The file that gets the image, and IMAGE.names the names of its methods; - is standard output"
+        ),
+        part!(Flag, "bare", "", "Leave the kernel out"),
+    ],
+    shared: KERNEL,
+};
+
+const EVAL: Entry = Entry {
+    name: "eval",
+    about: "Print what statements in Smalltalk come to",
+    examples: "Examples:
+  st80 eval '20 factorial printString'
+  st80 eval 'Account new balance' account.st       with the classes of a source file, which has no statements",
+    parts: &[
+        part!(
+            Word,
+            "statements",
+            "STATEMENTS",
+            "The statements; the value of the last is printed"
+        ),
+        part!(
+            Words,
+            "source",
+            "SOURCE",
+            "Source files behind the kernel; - is standard input"
+        ),
+    ],
+    shared: KERNEL,
+};
+
 const LIST: Entry = Entry {
     name: "list",
     about: "Write an image as text",
@@ -386,8 +446,8 @@ const CODES: Entry = Entry {
 
 /// The names of the commands, in the order of the help.
 pub const NAMES: &[&str] = &[
-    "run", "show", "trace", "picture", "check", "diff", "list", "asm", "make", "guard", "resume",
-    "codes", "manual",
+    "run", "show", "trace", "picture", "check", "diff", "build", "eval", "list", "asm", "make",
+    "guard", "resume", "codes", "manual",
 ];
 
 // The ways of saving, of which one at most is asked for.
@@ -421,6 +481,16 @@ fn shaped<'a>(alloc: Global, part: &Part) -> Arg<'a> {
             .value_name(part.value)
             .num_args(0..)
             .action(ArgAction::Append),
+        Shape::SomeWords => argument
+            .value_name(part.value)
+            .required(true)
+            .num_args(1..)
+            .action(ArgAction::Append),
+        Shape::Output => argument
+            .value_name(part.value)
+            .short('o')
+            .long(part.id)
+            .required(true),
         Shape::Value => argument
             .value_name(part.value)
             .long(part.id)
@@ -481,6 +551,14 @@ fn asm_command<'a>(alloc: Global) -> Result<Command<'a>, AllocError> {
     command_of(alloc, &ASM)
 }
 
+fn build_command<'a>(alloc: Global) -> Result<Command<'a>, AllocError> {
+    command_of(alloc, &BUILD)
+}
+
+fn eval_command<'a>(alloc: Global) -> Result<Command<'a>, AllocError> {
+    command_of(alloc, &EVAL)
+}
+
 fn make_command<'a>(alloc: Global) -> Result<Command<'a>, AllocError> {
     command_of(alloc, &MAKE)
 }
@@ -512,6 +590,8 @@ pub fn command_named<'a>(alloc: Global, name: &str) -> Result<Command<'a>, Alloc
         "diff" => diff_command(alloc),
         "list" => list_command(alloc),
         "asm" => asm_command(alloc),
+        "build" => build_command(alloc),
+        "eval" => eval_command(alloc),
         "make" => make_command(alloc),
         "guard" => guard_command(alloc),
         "resume" => resume_command(alloc),

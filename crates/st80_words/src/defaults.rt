@@ -13,7 +13,7 @@ pub const SMALLEST_CORE: u32 = 65_536;
 pub const MORE_ROOM: u32 = 8_192;
 
 /// The sizes of a run: the words and the entries of the core, and for how many objects there is room in the work file.
-#[derive(Clone, Copy, Debug, PartialEq, Eq)]
+#[derive(Clone, Copy)]
 pub struct Sizes {
     pub core: u32,
     pub entries: u16,

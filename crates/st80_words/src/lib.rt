@@ -32,7 +32,7 @@ pub use defaults::{Sizes, default_core, default_room, sizes_for};
 pub use numbers::{meant_number, number_in};
 pub use parsing::help_of;
 pub use request::{
-    AskedSizes, LargeNumber, Refusal, Request, Running, Saving, Shown, Tracing, request_of,
+    AskedSizes, LargeNumber, Refusal, Request, Running, Saving, Shown, Sources, Tracing, request_of,
 };
 pub use rows::{
     Clash, Unused, asm_row, file_clash, guard_row, image_clash, list_row, make_row, null_path,

@@ -16,7 +16,7 @@ use loom_words::{
 use std::alloc::{AllocError, Global};
 
 /// Where the image goes that a run leaves.
-#[derive(Clone, Copy, Debug, PartialEq, Eq)]
+#[derive(Clone, Copy, PartialEq, Eq)]
 pub enum Saving<'a> {
     /// Beside the image that was read.
     Beside,
@@ -27,7 +27,7 @@ pub enum Saving<'a> {
 }
 
 /// The sizes that were asked for, each within its limits.
-#[derive(Clone, Copy, Debug, PartialEq, Eq)]
+#[derive(Clone, Copy)]
 pub struct AskedSizes {
     pub core: Option<u32>,
     pub entries: Option<u32>,
@@ -38,7 +38,7 @@ pub struct AskedSizes {
 }
 
 /// How a machine runs, and where what comes of it goes.
-#[derive(Clone, Copy, Debug)]
+#[derive(Clone, Copy)]
 pub struct Running<'a> {
     pub events: Option<&'a str>,
     pub steps: u32,
@@ -51,14 +51,14 @@ pub struct Running<'a> {
 }
 
 /// The number of a large image.
-#[derive(Clone, Copy, Debug, PartialEq, Eq)]
+#[derive(Clone, Copy)]
 pub struct LargeNumber {
     pub number: u8,
     ghost within: { number ≤ LAST_NUMBER },
 }
 
 /// What is shown of an image.
-#[derive(Clone, Copy, Debug, PartialEq, Eq)]
+#[derive(Clone, Copy)]
 pub enum Shown<'a> {
     Summary,
     /// By its name, which is a number.
@@ -71,7 +71,7 @@ pub enum Shown<'a> {
 }
 
 /// Which bytecodes are shown of a run.
-#[derive(Clone, Copy, Debug)]
+#[derive(Clone, Copy)]
 pub struct Tracing<'a> {
     pub events: Option<&'a str>,
     pub from: u32,
@@ -85,8 +85,19 @@ pub struct Tracing<'a> {
     ghost to_within: { to ≤ MOST_STEPS },
 }
 
+/// What an image is made of.
+#[derive(Drop)]
+pub struct Sources<'a> {
+    /// The files, in order.
+    pub files: Vec<&'a str>,
+    /// Whether the kernel stands before them.
+    pub on_kernel: bool,
+    /// The folder of the kernel, where one is named.
+    pub kernel: Option<&'a str>,
+}
+
 /// What the words ask for. The word `-` for a file is left as it is.
-#[derive(Clone, Copy, Debug)]
+#[derive(Drop)]
 pub enum Request<'a> {
     Run {
         image: &'a str,
@@ -137,12 +148,20 @@ pub enum Request<'a> {
         scale: u32,
         width: Option<u32>,
     },
+    Build {
+        sources: Sources<'a>,
+        image: &'a str,
+    },
+    Evaluate {
+        statements: &'a str,
+        sources: Sources<'a>,
+    },
     Manual,
     Codes,
 }
 
 /// Why nothing is done.
-#[derive(Debug, Drop)]
+#[derive(Drop)]
 pub enum Refusal {
     /// Help, or the version, was asked for: a text for standard output.
     Help(String),
@@ -295,6 +314,54 @@ fn make_of<'a>(alloc: Global, matches: &ArgMatches<'a>) -> Result<Request<'a>, R
     Ok(Request::Make { number, file })
 }
 
+// Whether one of these words is empty.
+fn has_empty(words: &[&str]) -> bool {
+    words.iter().any(|word| word.is_empty())
+}
+
+// Files in order, none of which is an empty word.
+fn files_of<'a>(
+    alloc: Global,
+    matches: &ArgMatches<'a>,
+    id: &str,
+) -> Result<Vec<&'a str>, Refusal> {
+    match matches.get_strs(id) {
+        Some(words) if has_empty(words) => Err(Refusal::Words(empty_word(alloc, id)?)),
+        Some(words) => Ok(Vec::from_slice(alloc, words)?),
+        None => Ok(Vec::new(alloc)),
+    }
+}
+
+fn sources_of<'a>(
+    alloc: Global,
+    matches: &ArgMatches<'a>,
+    on_kernel: bool,
+) -> Result<Sources<'a>, Refusal> {
+    let files = files_of(alloc, matches, "source")?;
+    let kernel = file_behind(alloc, matches, "kernel")?;
+    Ok(Sources {
+        files,
+        on_kernel,
+        kernel,
+    })
+}
+
+fn build_of<'a>(alloc: Global, matches: &ArgMatches<'a>) -> Result<Request<'a>, Refusal> {
+    let image = word_of(alloc, matches, "output")?;
+    let on_kernel = !matches.get_flag("bare");
+    let sources = sources_of(alloc, matches, on_kernel)?;
+    Ok(Request::Build { sources, image })
+}
+
+fn evaluate_of<'a>(alloc: Global, matches: &ArgMatches<'a>) -> Result<Request<'a>, Refusal> {
+    let statements = matches.get_str("statements").unwrap_or("");
+    let sources = sources_of(alloc, matches, true)?;
+    Ok(Request::Evaluate {
+        statements,
+        sources,
+    })
+}
+
 fn list_of<'a>(alloc: Global, matches: &ArgMatches<'a>) -> Result<Request<'a>, Refusal> {
     let image = word_of(alloc, matches, "image")?;
     let text = file_behind(alloc, matches, "text")?;
@@ -425,6 +492,8 @@ fn request_for<'a>(
         "guard" => guard_of(alloc, matches),
         "resume" => resume_of(alloc, matches),
         "make" => make_of(alloc, matches),
+        "build" => build_of(alloc, matches),
+        "eval" => evaluate_of(alloc, matches),
         "list" => list_of(alloc, matches),
         "asm" => assemble_of(alloc, matches),
         "show" => show_of(alloc, matches),

@@ -12,7 +12,7 @@ use loom_words::{Command, Conversion, Making};
 use std::alloc::{AllocError, Global};
 
 /// A role of a run that has no file.
-#[derive(Clone, Copy, Debug, PartialEq, Eq)]
+#[derive(Clone, Copy)]
 pub enum Unused {
     Events,
     Saved,
@@ -36,7 +36,7 @@ pub fn null_paths_are_apart()
 {}
 
 /// Two words that name one file and may not.
-#[derive(Clone, Copy, Debug, PartialEq, Eq)]
+#[derive(Clone, Copy)]
 pub struct Clash {
     pub one: &'static str,
     pub other: &'static str,
