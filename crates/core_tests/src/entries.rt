@@ -4,31 +4,47 @@ use long_names::Name;
 use object_table::{EntryFlags, Short, Table};
 use std::test::Fail;
 
+// Whether three entries are taken in their order, and no fourth one.
+fn is_filled(table: &mut Table) -> bool {
+    for want in [Some(Short(2)), Some(Short(4)), Some(Short(6)), None] {
+        if table.take(Name::ARRAY) != want {
+            return false;
+        }
+    }
+    table.free() == 0
+}
+
 #[test]
 fn a_table_is_filled(rt: HostRuntime) -> Result<(), Fail> {
     let mut table = Table::new(rt.alloc(), 3)?;
-    assert_eq!(rt; (table.entries(), table.free()), (3, 3));
-    for want in [Some(Short(2)), Some(Short(4)), Some(Short(6)), None] {
-        assert_eq!(rt; table.take(Name::ARRAY), want);
-    }
-    assert_eq!(rt; table.free(), 0);
+    let empty = (table.entries(), table.free());
+    assert_eq!(rt; (empty, is_filled(&mut table)), ((3, 3), true));
     Ok(())
+}
+
+// Whether an entry that is taken has a reference once one is added, and is free once it is given back.
+fn comes_and_goes(table: &mut Table) -> bool {
+    let Some(s) = table.take(Name::STRING) else {
+        return false;
+    };
+    table.add_ref(s);
+    let entry = table.entry(s);
+    let used = entry.refs == 1 && entry.name == Name::STRING && entry.is_used();
+    let leaf = entry.place().is_none();
+    table.drop_ref(s);
+    table.give(s);
+    used && leaf && table.entry(s).is_free()
 }
 
 #[test]
 fn an_entry_is_used_and_given_back(rt: HostRuntime) -> Result<(), Fail> {
     let mut table = Table::new(rt.alloc(), 2)?;
-    if let Some(s) = table.take(Name::STRING) {
-        table.add_ref(s);
-        let entry = table.entry(s);
-        assert_eq!(rt; entry.refs, 1);
-        assert!(rt; entry.name == Name::STRING && entry.is_used() && entry.place().is_none());
-        table.drop_ref(s);
-        table.give(s);
-        assert!(rt; table.entry(s).is_free());
-    }
-    assert_eq!(rt; table.free(), 2);
-    assert_eq!(rt; table.take(Name::NIL), Some(Short(2)));
+    let gone = comes_and_goes(&mut table);
+    let free = table.free();
+    assert_eq!(rt;
+        (gone, free, table.take(Name::NIL)),
+        (true, 2, Some(Short(2)))
+    );
     Ok(())
 }
 
@@ -62,21 +78,30 @@ const FLAGS: [Flag; 4] = [
     },
 ];
 
-#[test]
-fn flags_are_bits(rt: HostRuntime) {
+// The first flag that isn't its bit, or that its name doesn't give.
+fn first_wrong() -> Option<&'static str> {
+    for row in &FLAGS {
+        let named = EntryFlags::from_name(row.name) == Some(row.flag);
+        if row.flag.bits() != row.bit || !named {
+            return Some(row.name);
+        }
+    }
+    None
+}
+
+// Whether these four are all, and one of them is taken out alone.
+fn are_all() -> bool {
     let mut all = EntryFlags::none();
     for row in &FLAGS {
-        assert_eq!(rt; row.flag.bits(), row.bit, "of {}", row.name);
-        assert!(rt;
-            EntryFlags::from_name(row.name) == Some(row.flag),
-            "of {}",
-            row.name
-        );
         all.insert(row.flag);
     }
-    assert!(rt; all == EntryFlags::all());
-    assert!(rt; all.contains(EntryFlags::MARKED) && all.fresh);
+    let set = all == EntryFlags::all() && all.contains(EntryFlags::MARKED) && all.fresh;
     all.remove(EntryFlags::FRESH);
-    assert!(rt; !all.fresh && all.marked);
+    set && !all.fresh && all.marked
+}
+
+#[test]
+fn flags_are_bits(rt: HostRuntime) {
+    assert_eq!(rt; (first_wrong(), are_all()), (None, true));
     assert_eq!(rt; EntryFlags::from_bits_retain(0xf3).bits(), 0xf3);
 }

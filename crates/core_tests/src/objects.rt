@@ -1,11 +1,14 @@
 // An object of three fields is brought into a core of which two entries are free above the reserve: its class takes one of them and the
 // first field the other, so that the others are lambdas. It is written back as it was, then with a number in the place of one lambda, and
 // the other is resolved. Then one of 300 fields, with 200 entries free: 72 leaves are made and 228 lambdas stand.
-ghost use Rattle.std.specs.Prelude.{◌≡◌, ℕ, List, IfOk, IfSome, OnOk, Some, length, true};
+ghost use Rattle.std.specs.Prelude.{◌≡◌, ◌+◌, ◌≤◌, ℕ, List, IfOk, IfSome, OnOk, Some, length, true};
+ghost use Rattle.long_names.specs.Objects.{body_words};
 ghost use Rattle.object_record.specs.Buffer.{HasRecord, raw_of};
+ghost use Rattle.object_record.specs.Objects.{object_in};
 ghost use Rattle.object_record.specs.Raw.{RawPointers};
 ghost use Rattle.object_table.specs.Entries.{is_used, place_of};
 ghost use Rattle.core_segment.specs.Segment.{largest_of};
+ghost use Rattle.core_segment.specs.declared.segment.TheConstants.{HEADER};
 ghost use Rattle.core_view.specs.Counts.{IsLight};
 ghost use Rattle.core_view.specs.Steps.{IsAt};
 ghost use Rattle.leaf_lambda.specs.Parts.{core_of, IsParts};
@@ -97,37 +100,117 @@ fn merge(p: &mut Parts, s: Short, buf: &mut RecordBuf) -> bool
     true
 }
 
+/// Brings an object in under its leaf. How many entries are free before that, and then.
+fn bring_in(p: &mut Parts, s: Short, buf: &mut RecordBuf) -> Result<(u16, u16), Fail>
+    requires parts { IsParts p.old }
+    requires light { IsLight (core_of p.old) }
+    requires used { is_used ((core_of p.old).entries s.0).state ≡ true }
+    requires record { HasRecord buf.old }
+    requires room { body_words (object_in (raw_of buf.old)).body + HEADER ≤ largest_of p.old.segment }
+    ensures parts { IsParts p.new }
+    ensures light { IsLight (core_of p.new) }
+    ensures body { OnOk result ((at : ℕ) × (place_of ((core_of p.new).entries s.0).state ≡ Some at)) }
+    ensures same { buf.new ≡ buf.old }
+{
+    let free = p.names.table.free();
+    if free == 0 || !is_leaf(p, s) {
+        return Err("a leaf stands there, and an entry is free".into());
+    }
+    translate_in(p, s, buf);
+    Ok((free, p.names.table.free()))
+}
+
+/// Whether the record that is made of an object has these bytes.
+fn is_as_it_was(p: &mut Parts, s: Short, buf: &mut RecordBuf, record: &[u8]) -> bool
+    requires parts { IsParts p.old }
+    requires light { IsLight (core_of p.old) }
+    requires body { (at : ℕ) × (place_of ((core_of p.old).entries s.0).state ≡ Some at) }
+    requires record { HasRecord buf.old }
+    ensures parts { IsParts p.new }
+    ensures light { IsLight (core_of p.new) }
+    ensures body { (at : ℕ) × (place_of ((core_of p.new).entries s.0).state ≡ Some at) }
+    ensures record { HasRecord buf.new }
+{
+    merge(p, s, buf) && buf.bytes() == record
+}
+
+/// Whether two records differ in nothing but the long word of field `i`.
+fn is_stored_over(new: &[u8], old: &[u8], i: u32) -> bool {
+    let at = 20usize.saturating_add((i as usize).saturating_mul(4));
+    if new.len() != old.len() || at.saturating_add(4) > old.len() {
+        return false;
+    }
+    new[..at] == old[..at] && new[at + 4..] == old[at + 4..]
+}
+
+/// Stores the number 3 into field `i`, and makes the record, which differs from an older one in nothing else. How many fields it has, and
+/// the long word of that one.
+fn stored(p: &mut Parts, s: Short, buf: &mut RecordBuf, record: &[u8], i: u32) -> Option<(u32, u32)>
+    requires parts { IsParts p.old }
+    requires light { IsLight (core_of p.old) }
+    requires body { (at : ℕ) × (place_of ((core_of p.old).entries s.0).state ≡ Some at) }
+    requires record { HasRecord buf.old }
+    ensures parts { IsParts p.new }
+    ensures light { IsLight (core_of p.new) }
+    ensures body { (at : ℕ) × (place_of ((core_of p.new).entries s.0).state ≡ Some at) }
+    ensures record { HasRecord buf.new }
+{
+    store(p, s, i);
+    if !merge(p, s, buf) || i >= buf.field_count() || !is_stored_over(buf.bytes(), record, i) {
+        return None;
+    }
+    Some((buf.field_count(), buf.long_field(i)))
+}
+
+/// Writes an object back as it was, and then with the number 3 in its last field, as `stored` tells; and resolves the field before that.
+fn go_out(
+    p: &mut Parts,
+    s: Short,
+    buf: &mut RecordBuf,
+    record: &[u8],
+    last: u32,
+) -> (bool, Option<(u32, u32)>, Option<u32>)
+    requires parts { IsParts p.old }
+    requires light { IsLight (core_of p.old) }
+    requires body { (at : ℕ) × (place_of ((core_of p.old).entries s.0).state ≡ Some at) }
+    requires record { HasRecord buf.old }
+{
+    let same = is_as_it_was(p, s, buf, record);
+    let stored = stored(p, s, buf, record, last);
+    let before = lambda(p, s, buf, last.saturating_sub(1));
+    (same, stored, before)
+}
+
+/// Three pointers, of which the last is 0.
+fn name_three(buf: &mut RecordBuf)
+    ensures record { HasRecord buf.new }
+    ensures pointers { (longs : List ℕ) × ((raw_of buf.new).body ≡ RawPointers longs) × (length longs ≡ 3) }
+{
+    buf.blank(Name::TRUE, Name::ARRAY, Kind::Pointers, 3, 0);
+    buf.set_long_field(0, 1_000);
+    buf.set_long_field(1, 1_002);
+}
+
 #[test]
 fn an_object_comes_and_goes(rt: HostRuntime) -> Result<(), Fail> {
     let mut p = Parts::new(rt.alloc(), 64, RESERVE + 3)?;
     let mut buf = RecordBuf::new(rt.alloc())?;
-    buf.blank(Name::TRUE, Name::ARRAY, Kind::Pointers, 3, 0);
-    buf.set_long_field(0, 1_000);
-    buf.set_long_field(1, 1_002);
+    name_three(&mut buf);
     let record = buf.bytes().to_vec(rt.alloc())?;
     let s = known(&mut p, Name::TRUE)?;
-    assert!(rt; is_leaf(&p, s));
-    assert_eq!(rt; p.names.table.free(), RESERVE + 2);
-    translate_in(&mut p, s, &mut buf);
-    assert_eq!(rt; p.names.table.free(), RESERVE);
-    assert!(rt; merge(&mut p, s, &mut buf));
-    assert_eq!(rt; buf.bytes(), record.as_slice());
-    store(&mut p, s, 2);
-    assert!(rt; merge(&mut p, s, &mut buf));
-    assert!(rt; buf.field_count() == 3);
-    assert_eq!(rt; buf.long_field(2), u32::from(THREE));
-    assert_eq!(rt; lambda(&mut p, s, &mut buf, 1), Some(1_002));
+    let free = bring_in(&mut p, s, &mut buf)?;
+    let out = go_out(&mut p, s, &mut buf, &record, 2);
+    assert_eq!(rt; free, (RESERVE + 2, RESERVE));
+    assert_eq!(rt; out, (true, Some((3, u32::from(THREE))), Some(1_002)));
     Ok(())
 }
 
-/// Gives each field of a record of 300 pointers a name of its own, from 10,000 on.
-fn name_fields(buf: &mut RecordBuf)
-    requires record { HasRecord buf.old }
-    requires pointers { (longs : List ℕ) × ((raw_of buf.old).body ≡ RawPointers longs) × (length longs ≡ 300) }
+/// 300 pointers, each of them a name of its own, from 10,000 on.
+fn name_three_hundred(buf: &mut RecordBuf)
     ensures record { HasRecord buf.new }
     ensures pointers { (longs : List ℕ) × ((raw_of buf.new).body ≡ RawPointers longs) × (length longs ≡ 300) }
-    ensures class { (raw_of buf.new).class ≡ (raw_of buf.old).class }
 {
+    buf.blank(Name::TRUE, Name::ARRAY, Kind::Pointers, 300, 0);
     for i in 0..300u32 {
         buf.set_long_field(i, 10_000 + 2 * i);
     }
@@ -165,38 +248,32 @@ fn lambdas(p: &Parts, s: Short) -> u32
     count
 }
 
-/// Whether two records differ in nothing but the long word of field `i`.
-fn is_stored_over(new: &[u8], old: &[u8], i: usize) -> bool {
-    let at = 20usize.saturating_add(i.saturating_mul(4));
-    if new.len() != old.len() || at.saturating_add(4) > old.len() {
-        return false;
-    }
-    new[..at] == old[..at] && new[at + 4..] == old[at + 4..]
+/// Gives the object's class and the object itself their entries, and leaves 200 free.
+fn crowd(p: &mut Parts) -> Result<Short, Fail>
+    requires parts { IsParts p.old }
+    requires light { IsLight (core_of p.old) }
+    ensures parts { OnOk result (IsParts p.new) }
+    ensures light { OnOk result (IsLight (core_of p.new)) }
+    ensures used { IfOk result (λ s. is_used ((core_of p.new).entries s.0).state ≡ true) }
+    ensures room { largest_of p.new.segment ≡ largest_of p.old.segment }
+{
+    known(p, Name::ARRAY)?;
+    known(p, Name::TRUE)?;
+    leave_two_hundred(p)?;
+    known(p, Name::TRUE)
 }
 
 #[test]
 fn three_hundred_pointers_come_and_go(rt: HostRuntime) -> Result<(), Fail> {
     let mut p = Parts::new(rt.alloc(), 512, 512)?;
     let mut buf = RecordBuf::new(rt.alloc())?;
-    buf.blank(Name::TRUE, Name::ARRAY, Kind::Pointers, 300, 0);
-    name_fields(&mut buf);
+    name_three_hundred(&mut buf);
     let record = buf.bytes().to_vec(rt.alloc())?;
-    known(&mut p, Name::ARRAY)?;
-    known(&mut p, Name::TRUE)?;
-    leave_two_hundred(&mut p)?;
-    let s = known(&mut p, Name::TRUE)?;
-    assert!(rt; is_leaf(&p, s));
-    assert_eq!(rt; p.names.table.free(), 200);
-    translate_in(&mut p, s, &mut buf);
-    assert_eq!(rt; p.names.table.free(), RESERVE);
-    assert_eq!(rt; lambdas(&p, s), 228);
-    assert!(rt; merge(&mut p, s, &mut buf));
-    assert_eq!(rt; buf.bytes(), record.as_slice());
-    store(&mut p, s, 299);
-    assert!(rt; merge(&mut p, s, &mut buf));
-    assert!(rt; buf.field_count() == 300);
-    assert_eq!(rt; buf.long_field(299), u32::from(THREE));
-    assert!(rt; is_stored_over(buf.bytes(), record.as_slice(), 299));
-    assert_eq!(rt; lambda(&mut p, s, &mut buf, 298), Some(10_596));
+    let s = crowd(&mut p)?;
+    let free = bring_in(&mut p, s, &mut buf)?;
+    let count = lambdas(&p, s);
+    let out = go_out(&mut p, s, &mut buf, &record, 299);
+    assert_eq!(rt; (free, count), ((200, RESERVE), 228));
+    assert_eq!(rt; out, (true, Some((300, u32::from(THREE))), Some(10_596)));
     Ok(())
 }

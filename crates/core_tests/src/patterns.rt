@@ -137,48 +137,72 @@ impl Kept {
         }
         Ok(())
     }
+
+    // Turns of a fixed pattern, with steps of compaction between.
+    fn turns(&mut self) -> Result<(), Fail> {
+        let mut seed: u32 = 1;
+        for turn in 0..TURNS {
+            seed = seed.wrapping_mul(1_664_525).wrapping_add(1_013_904_223);
+            let most = if turn % 5 == 0 { 600 } else { 60 };
+            let words = HEADER + (seed / 65_536) % most;
+            let owner = ((seed / 1_024) % PARTAKERS) as u16;
+            self.turn(owner, words, (seed % 65_536) as u16)?;
+            if turn % 7 == 0 {
+                self.step();
+            }
+        }
+        Ok(())
+    }
+
+    // Whether each owner takes a chunk of eight words.
+    fn take_all(&mut self) -> bool {
+        for k in 0..OWNERS {
+            if !self.take(k, 8, k) {
+                return false;
+            }
+        }
+        true
+    }
+
+    // Whether each second owner gives its chunk back as it was written.
+    fn give_even(&mut self) -> bool {
+        for k in 0..OWNERS / 2 {
+            if !self.give(2 * k) {
+                return false;
+            }
+        }
+        true
+    }
+
+    // Gives all back. The first owner whose chunk isn't as it was written.
+    fn give_all(&mut self) -> Option<u16> {
+        for k in 0..OWNERS {
+            if !self.give(k) {
+                return Some(k);
+            }
+        }
+        None
+    }
 }
 
 #[test]
 fn a_pattern_is_kept(rt: HostRuntime) -> Result<(), Fail> {
     let mut kept = Kept::new(&rt, 4_096)?;
-    let mut seed: u32 = 1;
-    for turn in 0..TURNS {
-        seed = seed.wrapping_mul(1_664_525).wrapping_add(1_013_904_223);
-        let most = if turn % 5 == 0 { 600 } else { 60 };
-        let words = HEADER + (seed / 65_536) % most;
-        kept.turn(
-            ((seed / 1_024) % PARTAKERS) as u16,
-            words,
-            (seed % 65_536) as u16,
-        )?;
-        if turn % 7 == 0 {
-            kept.step();
-        }
-    }
-    for k in 0..OWNERS {
-        assert!(rt; kept.give(k), "owner {k}");
-    }
-    assert_eq!(rt; kept.segment.free_words(), 4_096);
+    kept.turns()?;
+    assert_eq!(rt; (kept.give_all(), kept.segment.free_words()), (None, 4_096));
     Ok(())
 }
 
 #[test]
 fn every_second_chunk_is_given_back(rt: HostRuntime) -> Result<(), Fail> {
     let mut kept = Kept::new(&rt, 4_096)?;
-    for k in 0..OWNERS {
-        assert!(rt; kept.take(k, 8, k), "owner {k}");
-    }
-    assert_eq!(rt; kept.segment.free_words(), 0);
-    for k in 0..OWNERS / 2 {
-        assert!(rt; kept.give(2 * k), "owner {k}");
-    }
-    assert!(rt; !kept.take(0, 9, 0));
+    assert_eq!(rt; (kept.take_all(), kept.segment.free_words()), (true, 0));
+    assert_eq!(rt; (kept.give_even(), kept.take(0, 9, 0)), (true, false));
     kept.compact();
-    assert!(rt; kept.take(0, 2_048, 1));
-    assert_eq!(rt; kept.segment.free_words(), 0);
-    for k in 0..OWNERS {
-        assert!(rt; kept.give(k), "owner {k}");
-    }
+    assert_eq!(rt;
+        (kept.take(0, 2_048, 1), kept.segment.free_words()),
+        (true, 0)
+    );
+    assert_eq!(rt; kept.give_all(), None);
     Ok(())
 }
