@@ -111,7 +111,7 @@ fn first_wrong<H: Host>(host: &mut H, steps: &[Step]) -> Result<Option<usize>, F
 }
 
 // What holds over files as over memory.
-const STEPS: [Step; 42] = [
+const STEPS: &[Step] = &[
     Step::Misses(Role::Image, "none"),
     Step::Faults(Role::Image, 1),
     Step::Attach(Role::Saved, "s"),
@@ -157,10 +157,10 @@ const STEPS: [Step; 42] = [
 ];
 
 // Where nothing is attached yet.
-const FIRST: [Step; 2] = [Step::Fails(Role::Work), Step::Fails(Role::Saved)];
+const FIRST: &[Step] = &[Step::Fails(Role::Work), Step::Fails(Role::Saved)];
 
 // Once a write of Notes is interrupted 1,000 times.
-const LAST: [Step; 7] = [
+const LAST: &[Step] = &[
     Step::Faults(Role::Image, 2),
     Step::Faults(Role::Events, 1),
     Step::Faults(Role::Work, 1),
@@ -176,7 +176,7 @@ struct Text {
     text: &'static str,
 }
 
-const TEXTS: [Text; 7] = [
+const TEXTS: &[Text] = &[
     Text {
         name: "s",
         text: "abcdef",
@@ -232,7 +232,7 @@ impl Write for Interrupted {
 const LAID: &str = "longer than what is put into it";
 
 fn lay(rt: &HostRuntime) -> io::Result<()> {
-    for row in &TEXTS {
+    for row in TEXTS {
         fs::write(rt, row.name, LAID)?;
     }
     Ok(())
@@ -247,7 +247,7 @@ fn is_right(rt: &HostRuntime, row: &Text) -> io::Result<bool> {
 
 // The first file that holds another text.
 fn first_other(rt: &HostRuntime) -> io::Result<Option<&'static str>> {
-    for row in &TEXTS {
+    for row in TEXTS {
         if !is_right(rt, row)? {
             return Ok(Some(row.name));
         }
@@ -255,15 +255,27 @@ fn first_other(rt: &HostRuntime) -> io::Result<Option<&'static str>> {
     Ok(None)
 }
 
+// The table's part, 0 to 2, and the step there of which something else came.
+fn first_wrong_in_files<H: Host>(host: &mut H) -> Result<Option<(usize, usize)>, Failed> {
+    for (part, steps) in [FIRST, STEPS, LAST].iter().enumerate() {
+        if let Some(i) = first_wrong(host, steps)? {
+            return Ok(Some((part, i)));
+        }
+    }
+    Ok(None)
+}
+
+fn first_wrong_over_files(rt: &HostRuntime) -> Result<Option<(usize, usize)>, Fail> {
+    let said = File::create(rt, "said")?;
+    let mut host = RealHost::new(rt.clone()?, said, Interrupted { times: 999 });
+    Ok(first_wrong_in_files(&mut host)?)
+}
+
 #[test]
 fn files_and_streams(rt: HostRuntime) -> Result<(), Fail> {
     lay(&rt)?;
-    let said = File::create(&rt, "said")?;
-    let mut host = RealHost::new(rt.clone()?, said, Interrupted { times: 999 });
-    assert_eq!(rt; first_wrong(&mut host, &FIRST)?, None);
-    assert_eq!(rt; first_wrong(&mut host, &STEPS)?, None);
-    assert_eq!(rt; first_wrong(&mut host, &LAST)?, None);
-    assert_eq!(rt; first_other(&rt)?, None);
+    let wrong = first_wrong_over_files(&rt)?;
+    assert_eq!(rt; (wrong, first_other(&rt)?), (None, None));
     Ok(())
 }
 
@@ -273,7 +285,7 @@ struct Sizes {
     room: u64,
 }
 
-const SIZES: [Sizes; 4] = [
+const SIZES: &[Sizes] = &[
     Sizes { chunk: 1, room: 0 },
     Sizes {
         chunk: 100,
@@ -322,7 +334,7 @@ fn goes_on(host: &mut MemoryHost, chunk: usize) -> Result<bool, Failed> {
 
 fn holds_all(alloc: Global, sizes: &Sizes) -> Result<bool, Fail> {
     let mut host = in_memory(alloc, sizes)?;
-    let wrong = first_wrong(&mut host, &STEPS)?;
+    let wrong = first_wrong(&mut host, STEPS)?;
     Ok(
         wrong.is_none()
             && is_whole(&host)
@@ -333,7 +345,7 @@ fn holds_all(alloc: Global, sizes: &Sizes) -> Result<bool, Fail> {
 
 #[test]
 fn memory(rt: HostRuntime) -> Result<(), Fail> {
-    for sizes in &SIZES {
+    for sizes in SIZES {
         assert!(rt; holds_all(rt.alloc(), sizes)?);
     }
     Ok(())
@@ -346,7 +358,7 @@ struct Shown {
 }
 
 // Who reads goes on with what was there at the attach.
-const NEWER: [Shown; 13] = [
+const NEWER: &[Shown] = &[
     Shown {
         step: Step::Attach(Role::Saved, "s"),
         file: b"",
@@ -417,16 +429,21 @@ fn first_not_shown(host: &mut MemoryHost, rows: &[Shown]) -> Result<Option<usize
     Ok(None)
 }
 
+// In the first rows, and in those behind a file that is added.
+fn first_wrong_in_newer(host: &mut MemoryHost) -> Result<(Option<usize>, Option<usize>), Fail> {
+    let newer = first_not_shown(host, NEWER)?;
+    host.add_file("s", b"added")?;
+    Ok((newer, first_not_shown(host, &ADDED)?))
+}
+
 #[test]
 fn a_newer_file(rt: HostRuntime) -> Result<(), Fail> {
     let mut host = MemoryHost::new(rt.alloc(), 4)?;
-    assert_eq!(rt; first_not_shown(&mut host, &NEWER)?, None);
-    host.add_file("s", b"added")?;
-    assert_eq!(rt; first_not_shown(&mut host, &ADDED)?, None);
+    assert_eq!(rt; first_wrong_in_newer(&mut host)?, (None, None));
     Ok(())
 }
 
-const LIES: [Step; 5] = [
+const LIES: &[Step] = &[
     Step::Attach(Role::Work, "w"),
     Step::WriteAt(0, b"ab"),
     Step::ReadAt(0, b"ab"),
@@ -438,7 +455,7 @@ const LIES: [Step; 5] = [
 #[test]
 fn one_read_lies(rt: HostRuntime) -> Result<(), Fail> {
     let mut host = LyingHost::new(MemoryHost::new(rt.alloc(), 100)?, 2, 0x0f);
-    assert_eq!(rt; first_wrong(&mut host, &LIES)?, None);
+    assert_eq!(rt; first_wrong(&mut host, LIES)?, None);
     assert_eq!(rt; host.inner().work_writes(), (0, 0));
     Ok(())
 }

@@ -8,7 +8,7 @@ struct LongWord {
 }
 
 // The bit 0 is set, and the bits 1 to 15 are the number; above them stands its sign.
-const LONG_WORDS: [LongWord; 7] = [
+const LONG_WORDS: &[LongWord] = &[
     LongWord {
         word: 0xffff_ffff,
         number: Some(-1),

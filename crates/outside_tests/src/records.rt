@@ -10,7 +10,7 @@ struct Record {
     bytes: &'static [u8],
 }
 
-const RECORDS: [Record; 10] = [
+const RECORDS: &[Record] = &[
     Record {
         what: "nil",
         bytes: b"\0\0\0\x02\0\0\0\x10\0\0\0\0\0\0\0\x13\0\0\0\0",
@@ -76,6 +76,6 @@ fn first_lost(alloc: Global, records: &[Record]) -> Result<Option<&'static str>,
 
 #[test]
 fn records_are_written_as_they_are_read(rt: HostRuntime) -> Result<(), Fail> {
-    assert_eq!(rt; first_lost(rt.alloc(), &RECORDS)?, None);
+    assert_eq!(rt; first_lost(rt.alloc(), RECORDS)?, None);
     Ok(())
 }

@@ -12,7 +12,7 @@ struct Traced {
 }
 
 // The first four bytecodes of the base image, and both ends of each number.
-const TRACES: [Traced; 6] = [
+const TRACES: &[Traced] = &[
     Traced {
         k: 1,
         context: 66,

@@ -3,8 +3,8 @@ use checkpoint::{MemoryVault, Vault, VaultFault, fresh, read_image, recover};
 use loom_outside::{Failed, Role};
 use real_vault::RealVault;
 use std::alloc::{AllocError, Global};
-use std::fs;
 use std::test::Fail;
+use std::{fs, io};
 
 // ---- gates
 
@@ -34,7 +34,7 @@ const OPEN_2: Gate = Gate(1, 2, 36);
 const OPEN_3: Gate = Gate(1, 3, 50);
 
 // The greatest serial is 2 ^ 62 - 1, and the greatest length 2 ^ 42.
-const CLOSED: [Row; 8] = [
+const CLOSED: &[Row] = &[
     Row {
         first: EMPTY,
         second: EMPTY,
@@ -77,7 +77,7 @@ const CLOSED: [Row; 8] = [
     },
 ];
 
-const OPEN: [Row; 21] = [
+const OPEN: &[Row] = &[
     Row {
         first: OPEN_2,
         second: EMPTY,
@@ -229,13 +229,13 @@ fn first_wrong(alloc: Global, rows: &[Row]) -> Result<Option<usize>, Fail> {
 
 #[test]
 fn gates_that_are_closed(rt: HostRuntime) -> Result<(), Fail> {
-    assert_eq!(rt; first_wrong(rt.alloc(), &CLOSED)?, None);
+    assert_eq!(rt; first_wrong(rt.alloc(), CLOSED)?, None);
     Ok(())
 }
 
 #[test]
 fn gates_that_are_open(rt: HostRuntime) -> Result<(), Fail> {
-    assert_eq!(rt; first_wrong(rt.alloc(), &OPEN)?, None);
+    assert_eq!(rt; first_wrong(rt.alloc(), OPEN)?, None);
     Ok(())
 }
 
@@ -279,16 +279,26 @@ fn reads(
     }
 }
 
-// Whether an image of this length is read out of each area.
+// Whether an image is read out of each area, where both have the same length.
+fn both_read(
+    alloc: Global,
+    vault: &mut MemoryVault,
+    even: &[u8],
+    odd: &[u8],
+) -> Result<bool, Fail> {
+    lay(vault, false, even)?;
+    lay(vault, true, odd)?;
+    let first = reads(alloc, vault, 8, even)?;
+    put_gate(vault, true, Gate(1, 9, odd.len() as u64))?;
+    Ok(first && reads(alloc, vault, 9, odd)?)
+}
+
+// The same of images of this length.
 fn are_read(alloc: Global, len: usize) -> Result<bool, Fail> {
     let even = pattern(alloc, len, 0)?;
     let odd = pattern(alloc, len, 100)?;
     let mut vault = with_gates(alloc, Gate(1, 8, len as u64), EMPTY)?;
-    lay(&mut vault, false, &even)?;
-    lay(&mut vault, true, &odd)?;
-    let first = reads(alloc, &mut vault, 8, &even)?;
-    put_gate(&mut vault, true, Gate(1, 9, len as u64))?;
-    Ok(first && reads(alloc, &mut vault, 9, &odd)?)
+    both_read(alloc, &mut vault, &even, &odd)
 }
 
 #[test]
@@ -299,29 +309,29 @@ fn images_by_their_blocks(rt: HostRuntime) -> Result<(), Fail> {
     Ok(())
 }
 
-// A length that no memory holds is want of memory before the image is read: no call on the vault would pass any more.
+// Whether the image of the vault's checkpoint is refused for want of memory, with no call on the vault, of which none would pass.
+fn is_refused(alloc: Global, vault: &mut MemoryVault) -> Result<bool, VaultFault> {
+    let Some(point) = recover(vault)? else {
+        return Ok(false);
+    };
+    vault.fuse(0);
+    let refused = matches!(read_image(alloc, vault, point), Err(VaultFault::Memory));
+    Ok(refused && vault.fault_count() == 0)
+}
+
+// A length that no memory holds is want of memory before the image is read.
 #[test]
 fn a_length_that_no_memory_holds(rt: HostRuntime) -> Result<(), Fail> {
     let mut vault = with_gates(rt.alloc(), Gate(1, 2, 1 << 42), EMPTY)?;
-    lay(&mut vault, false, &pattern(rt.alloc(), 100, 0)?)?;
-    let Some(point) = recover(&mut vault)? else {
-        return Err("there is a checkpoint".into());
-    };
-    vault.fuse(0);
-    assert!(rt;
-        matches!(
-            read_image(rt.alloc(), &mut vault, point),
-            Err(VaultFault::Memory)
-        )
-    );
-    assert_eq!(rt; vault.fault_count(), 0);
+    lay(&mut vault, false, &[7; 100])?;
+    assert!(rt; is_refused(rt.alloc(), &mut vault)?);
     Ok(())
 }
 
 // ---- stops
 
 /// How many of the ranges that weren't synced are kept, and the byte of the others.
-const STOPS: [(u64, u8); 12] = [
+const STOPS: &[(u64, u8)] = &[
     (0, 0),
     (0, 1),
     (0, 255),
@@ -358,11 +368,19 @@ fn is_closed(alloc: Global, calls: u64, (kept, fill): (u64, u8)) -> Result<bool,
 // The first stop behind so many calls that leaves a checkpoint.
 fn first_open(alloc: Global, calls: u64) -> Result<Option<(u64, u8)>, Fail> {
     for stop in STOPS {
-        if !is_closed(alloc, calls, stop)? {
-            return Ok(Some(stop));
+        if !is_closed(alloc, calls, *stop)? {
+            return Ok(Some(*stop));
         }
     }
     Ok(None)
+}
+
+// What is found after a stop of `fresh` over a vault that wasn't opened.
+fn answer_unopened(alloc: Global) -> Result<Answer, Fail> {
+    let mut vault = with_gates(alloc, OPEN_2, OPEN_3)?;
+    fresh(&mut vault)?;
+    vault.stop(0, 1);
+    Ok(answer_of(&mut vault))
 }
 
 #[test]
@@ -370,10 +388,7 @@ fn a_fresh_vault_has_no_checkpoint(rt: HostRuntime) -> Result<(), Fail> {
     for calls in 0..4 {
         assert_eq!(rt; (calls, first_open(rt.alloc(), calls)?), (calls, None));
     }
-    let mut vault = with_gates(rt.alloc(), OPEN_2, OPEN_3)?;
-    fresh(&mut vault)?;
-    vault.stop(0, 1);
-    assert_eq!(rt; answer_of(&mut vault), Answer::None);
+    assert_eq!(rt; answer_unopened(rt.alloc())?, Answer::None);
     Ok(())
 }
 
@@ -462,7 +477,7 @@ fn first_not_in_memory(vault: &mut MemoryVault, steps: &[Step]) -> Option<usize>
 }
 
 // What holds over a file as over memory.
-const CALLS: [Step; 17] = [
+const CALLS: &[Step] = &[
     Step::Open(true),
     Step::Shows(0, b"\0\0\0"),
     Step::Write(3, b"abc"),
@@ -484,7 +499,7 @@ const CALLS: [Step; 17] = [
 
 // What was synced stays, and the ranges that weren't count each for itself, those of failed writes among them. An opening that isn't fresh changes
 // nothing of it; behind a fresh one nothing older comes back.
-const RANGES: [Step; 29] = [
+const RANGES: &[Step] = &[
     Step::Write(0, b"abcdef"),
     Step::Sync,
     Step::Write(1, b"BC"),
@@ -518,7 +533,7 @@ const RANGES: [Step; 29] = [
 
 // So many calls of whatever kind pass, and then none. After a sync that failed the ranges go as before it. A stop sets no fuse, and changes no
 // count.
-const FUSES: [Step; 22] = [
+const FUSES: &[Step] = &[
     Step::Fuse(4),
     Step::Open(true),
     Step::Write(0, b"ab"),
@@ -545,7 +560,7 @@ const FUSES: [Step; 22] = [
 
 #[test]
 fn a_vault_in_memory(rt: HostRuntime) -> Result<(), Fail> {
-    for steps in [CALLS.as_slice(), &RANGES, &FUSES] {
+    for steps in [CALLS, RANGES, FUSES] {
         let mut vault = MemoryVault::new(rt.alloc())?;
         assert_eq!(rt; first_not_in_memory(&mut vault, steps), None);
     }
@@ -553,7 +568,7 @@ fn a_vault_in_memory(rt: HostRuntime) -> Result<(), Fail> {
 }
 
 // There is no file yet, and nothing is open.
-const MISSING: [Step; 6] = [
+const MISSING: &[Step] = &[
     Step::NoRead,
     Step::NoWrite(0, b"w"),
     Step::NoSync,
@@ -563,22 +578,34 @@ const MISSING: [Step; 6] = [
 ];
 
 // The file is one that the run has.
-const TAKEN: [Step; 4] = [
+const TAKEN: &[Step] = &[
     Step::Misses(true),
     Step::Misses(false),
     Step::NoRead,
     Step::Faults(8),
 ];
 
+// Whether the file is as these calls leave it.
+fn is_written(rt: &HostRuntime) -> io::Result<bool> {
+    Ok(fs::read_to_string(rt, NAME)?.as_str() == "front\0\0\0\0end")
+}
+
+// The first step of each part of which something else came: where there is no file, where there is one, and where the run has it.
+fn wrong_over_file(rt: &HostRuntime) -> Result<[Option<usize>; 3], Fail> {
+    let mut vault = RealVault::new(rt.clone()?);
+    let missing = first_not(&mut vault, MISSING);
+    let calls = first_not(&mut vault, CALLS);
+    if !is_written(rt)? {
+        return Err("the file is as these calls leave it".into());
+    }
+    vault.expect(Role::Saved, "./v");
+    Ok([missing, calls, first_not(&mut vault, TAKEN)])
+}
+
 #[test]
 fn a_vault_over_a_file(rt: HostRuntime) -> Result<(), Fail> {
-    let mut vault = RealVault::new(rt.clone()?);
-    assert_eq!(rt; first_not(&mut vault, &MISSING), None);
-    assert_eq!(rt; first_not(&mut vault, &CALLS), None);
-    assert_eq!(rt; fs::read_to_string(&rt, NAME)?.as_str(), "front\0\0\0\0end");
-    vault.expect(Role::Saved, "./v");
-    assert_eq!(rt; first_not(&mut vault, &TAKEN), None);
-    assert_eq!(rt; fs::read_to_string(&rt, NAME)?.as_str(), "front\0\0\0\0end");
+    assert_eq!(rt; wrong_over_file(&rt)?, [None; 3]);
+    assert!(rt; is_written(&rt)?);
     fs::remove_file(&rt, NAME)?;
     Ok(())
 }
@@ -595,7 +622,7 @@ struct File {
 }
 
 // The gates' bytes stand at 0 and at 512, and are 0 or 1 in a vault. An image, an image's text and a picture begin with a letter.
-const FILES: [File; 16] = [
+const FILES: &[File] = &[
     File {
         len: 0,
         first: b"",

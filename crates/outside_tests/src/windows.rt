@@ -1,5 +1,5 @@
 // Reads and writes of Work by windows, beside the same steps over the host without them. Pages 0 and 1,088 have one window in each row.
-use loom_outside::{Host, MemoryHost, Role};
+use loom_outside::{Failed, Host, MemoryHost, Role};
 use std::alloc::{AllocError, Global};
 use std::test::Fail;
 use work_windows::Windowed;
@@ -51,7 +51,7 @@ fn first_apart<A: Host, B: Host>(one: &mut A, other: &mut B, steps: &[Step]) -> 
 // Bytes of two pages and more.
 const LONG: [u8; 9_000] = [7; 9_000];
 
-const STEPS: [Step; 55] = [
+const STEPS: &[Step] = &[
     Step::Read(0, 70),
     Step::Attach,
     Step::Read(7, 64),
@@ -117,7 +117,7 @@ const STEPS: [Step; 55] = [
 ];
 
 // Writes and reads of one page, and of one that is only read.
-const FAILING: [Step; 8] = [
+const FAILING: &[Step] = &[
     Step::Attach,
     Step::Write(0, b"abc"),
     Step::Read(0, 64),
@@ -129,7 +129,7 @@ const FAILING: [Step; 8] = [
 ];
 
 // These with a write over an edge, both sides of which were read.
-const FAILING_OVER: [Step; 7] = [
+const FAILING_OVER: &[Step] = &[
     Step::Attach,
     Step::Write(4_090, b"abcdefghijkl"),
     Step::Read(4_072, 24),
@@ -140,7 +140,7 @@ const FAILING_OVER: [Step; 7] = [
 ];
 
 // Pages 0 and 1,088 are written in turn, and both are read between.
-const TURNS: [Step; 14] = [
+const TURNS: &[Step] = &[
     Step::Attach,
     Step::Write(8, b"one"),
     Step::Write(16, b"two"),
@@ -171,6 +171,39 @@ fn opened(alloc: Global, nth: u64) -> Result<Windowed<MemoryHost>, Fail> {
     Ok(Windowed::new(alloc, host))
 }
 
+// A host that doesn't fail, of which Work is attached.
+fn plain(alloc: Global) -> Result<MemoryHost, Fail> {
+    let mut host = MemoryHost::new(alloc, 100)?;
+    host.attach(Role::Work, "w")?;
+    Ok(host)
+}
+
+// Windows over a host that doesn't fail.
+fn fresh(alloc: Global) -> Result<Windowed<MemoryHost>, AllocError> {
+    Ok(Windowed::new(alloc, MemoryHost::new(alloc, 100)?))
+}
+
+// The first step that goes otherwise over windows than over a host, and how many calls on Work failed inside.
+fn first_beside<H: Host>(
+    alloc: Global,
+    host: &mut H,
+    steps: &[Step],
+) -> Result<(Option<usize>, u64), Fail> {
+    let mut plain = plain(alloc)?;
+    let apart = first_apart(&mut plain, host, steps);
+    Ok((apart, host.fault_count(Role::Work)))
+}
+
+// The same over windows of a host that fails at the nth call on Work, which was attached before.
+fn first_behind_attach(
+    alloc: Global,
+    nth: u64,
+    steps: &[Step],
+) -> Result<(Option<usize>, u64), Fail> {
+    let mut windowed = opened(alloc, nth)?;
+    first_beside(alloc, &mut windowed, steps)
+}
+
 // How many calls of `write_at` came to the host inside and went through.
 fn written(host: &mut Windowed<MemoryHost>) -> Result<u64, Fail> {
     host.write(Role::Transcript, b".")?;
@@ -180,8 +213,8 @@ fn written(host: &mut Windowed<MemoryHost>) -> Result<u64, Fail> {
 #[test]
 fn windows_show_what_is_there(rt: HostRuntime) -> Result<(), Fail> {
     let mut plain = MemoryHost::new(rt.alloc(), 100)?;
-    let mut windowed = Windowed::new(rt.alloc(), MemoryHost::new(rt.alloc(), 100)?);
-    assert_eq!(rt; first_apart(&mut plain, &mut windowed, &STEPS), None);
+    let mut windowed = fresh(rt.alloc())?;
+    assert_eq!(rt; first_apart(&mut plain, &mut windowed, STEPS), None);
     Ok(())
 }
 
@@ -223,96 +256,136 @@ fn alike_until_failed<A: Host, B: Host>(one: &mut A, other: &mut B, steps: &[Ste
     true
 }
 
-// The same over hosts that fail at the first call on Work, at the second, and so on.
-fn alike_for_each(alloc: Global, steps: &[Step]) -> Result<bool, AllocError> {
-    let mut alike = true;
-    for nth in 1..=10 {
-        let mut plain = MemoryHost::new(alloc, 100)?;
-        let mut windowed = Windowed::new(alloc, memory(alloc, nth)?);
-        alike = alike && alike_until_failed(&mut plain, &mut windowed, steps);
-    }
-    Ok(alike)
+// The same over a host that fails at the nth call on Work.
+fn alike_for(alloc: Global, nth: u64, steps: &[Step]) -> Result<bool, AllocError> {
+    let mut plain = MemoryHost::new(alloc, 100)?;
+    let mut windowed = Windowed::new(alloc, memory(alloc, nth)?);
+    Ok(alike_until_failed(&mut plain, &mut windowed, steps))
 }
 
-// The same where Work was attached before, with the steps behind the attach.
-fn alike_behind_attach(alloc: Global, steps: &[Step]) -> Result<bool, Fail> {
-    let mut alike = true;
-    for nth in 2..=10 {
-        let mut plain = MemoryHost::new(alloc, 100)?;
-        plain.attach(Role::Work, "w")?;
-        let mut windowed = opened(alloc, nth)?;
-        let behind = steps.get(1..).unwrap_or(steps);
-        alike = alike && alike_until_failed(&mut plain, &mut windowed, behind);
+// At the first, at the second, and so on.
+fn alike_for_each(alloc: Global, steps: &[Step]) -> Result<bool, AllocError> {
+    for nth in 1..=10 {
+        if !alike_for(alloc, nth, steps)? {
+            return Ok(false);
+        }
     }
-    Ok(alike)
+    Ok(true)
+}
+
+// The same where Work was attached before.
+fn alike_behind(alloc: Global, nth: u64, steps: &[Step]) -> Result<bool, Fail> {
+    let mut windowed = opened(alloc, nth)?;
+    let mut plain = plain(alloc)?;
+    Ok(alike_until_failed(&mut plain, &mut windowed, steps))
+}
+
+// With the steps behind the attach.
+fn alike_behind_attach(alloc: Global, steps: &[Step]) -> Result<bool, Fail> {
+    let behind = steps.get(1..).unwrap_or(steps);
+    for nth in 2..=10 {
+        if !alike_behind(alloc, nth, behind)? {
+            return Ok(false);
+        }
+    }
+    Ok(true)
 }
 
 #[test]
 fn windows_up_to_a_failure_of_unknown_pages(rt: HostRuntime) -> Result<(), Fail> {
-    assert!(rt; alike_behind_attach(rt.alloc(), &FAILING)?);
-    assert!(rt; alike_behind_attach(rt.alloc(), &FAILING_OVER)?);
-    assert!(rt; alike_behind_attach(rt.alloc(), &TURNS)?);
-    assert!(rt; alike_behind_attach(rt.alloc(), &BESIDE)?);
+    assert!(rt; alike_behind_attach(rt.alloc(), FAILING)?);
+    assert!(rt; alike_behind_attach(rt.alloc(), FAILING_OVER)?);
+    assert!(rt; alike_behind_attach(rt.alloc(), TURNS)?);
+    assert!(rt; alike_behind_attach(rt.alloc(), BESIDE)?);
     Ok(())
 }
 
 #[test]
 fn windows_up_to_a_failure(rt: HostRuntime) -> Result<(), Fail> {
-    assert!(rt; alike_for_each(rt.alloc(), &FAILING)?);
-    assert!(rt; alike_for_each(rt.alloc(), &FAILING_OVER)?);
-    assert!(rt; alike_for_each(rt.alloc(), &TURNS)?);
-    assert!(rt; alike_for_each(rt.alloc(), &BESIDE)?);
+    assert!(rt; alike_for_each(rt.alloc(), FAILING)?);
+    assert!(rt; alike_for_each(rt.alloc(), FAILING_OVER)?);
+    assert!(rt; alike_for_each(rt.alloc(), TURNS)?);
+    assert!(rt; alike_for_each(rt.alloc(), BESIDE)?);
     Ok(())
 }
 
 #[test]
 fn windows_take_turns(rt: HostRuntime) -> Result<(), Fail> {
     let mut plain = MemoryHost::new(rt.alloc(), 100)?;
-    let mut windowed = Windowed::new(rt.alloc(), MemoryHost::new(rt.alloc(), 100)?);
-    assert_eq!(rt; first_apart(&mut plain, &mut windowed, &TURNS), None);
+    let mut windowed = fresh(rt.alloc())?;
+    let apart = first_apart(&mut plain, &mut windowed, TURNS);
     // page 0 as it makes place, and page 1,088 as page 0 is written again
-    assert_eq!(rt; written(&mut windowed)?, 2);
+    assert_eq!(rt; (apart, written(&mut windowed)?), (None, 2));
     Ok(())
 }
 
-// A thousand writes of a slot and of a link each, and of 20 bytes over the edges of their pages: none goes through.
+// A thousand writes of a slot and of a link each, and of 20 bytes over the edges of their pages.
+fn write_thousand<H: Host>(host: &mut H) -> Result<(), Failed> {
+    host.attach(Role::Work, "w")?;
+    for i in 0..1_000 {
+        host.write_at(32 * i, b"a slot of 24 bytes here.")?;
+        host.write_at(32 * i + 24, b"a link..")?;
+        host.write_at(4_096 * (i % 8) + 4_086, b"piece over an edge..")?;
+    }
+    Ok(())
+}
+
+// What stands in the last slot, and in its link.
+fn last_written<H: Host>(host: &mut H) -> Result<[u8; 32], Failed> {
+    let mut buf = [0; 32];
+    host.read_at(32 * 999, &mut buf)?;
+    Ok(buf)
+}
+
+// None goes through.
 #[test]
 fn windows_keep_writes_back(rt: HostRuntime) -> Result<(), Fail> {
-    let mut windowed = Windowed::new(rt.alloc(), MemoryHost::new(rt.alloc(), 100)?);
-    windowed.attach(Role::Work, "w")?;
-    for i in 0..1_000 {
-        windowed.write_at(32 * i, b"a slot of 24 bytes here.")?;
-        windowed.write_at(32 * i + 24, b"a link..")?;
-        windowed.write_at(4_096 * (i % 8) + 4_086, b"piece over an edge..")?;
-    }
-    assert_eq!(rt; written(&mut windowed)?, 0);
-    let mut buf = [0; 32];
-    windowed.read_at(32 * 999, &mut buf)?;
-    assert_eq!(rt; &buf[..], b"a slot of 24 bytes here.a link..".as_slice());
+    let mut windowed = fresh(rt.alloc())?;
+    write_thousand(&mut windowed)?;
+    let calls = written(&mut windowed)?;
+    let last = last_written(&mut windowed)?;
+    assert_eq!(rt; (calls, last), (0, *b"a slot of 24 bytes here.a link.."));
     Ok(())
 }
 
-// An attach of another role, and reads and writes there, leave what is kept back; an attach of Work forgets it.
+// The first bytes, once Work was written, and then another role was attached and written.
+fn beside_saved<H: Host>(host: &mut H) -> Result<[u8; 12], Failed> {
+    let mut buf = [0; 12];
+    host.attach(Role::Work, "w")?;
+    host.write_at(0, b"first")?;
+    host.write_at(5, b"second")?;
+    host.attach(Role::Saved, "s")?;
+    host.write(Role::Saved, b"bytes")?;
+    host.read_at(0, &mut buf)?;
+    Ok(buf)
+}
+
+// The first bytes, once Work is attached again.
+fn anew<H: Host>(host: &mut H) -> Result<[u8; 24], Failed> {
+    let mut buf = [9; 24];
+    host.attach(Role::Work, "w")?;
+    host.read_at(0, &mut buf)?;
+    Ok(buf)
+}
+
+// Both, and how many calls on Work failed.
+fn beside_other_roles<H: Host>(host: &mut H) -> Result<([u8; 12], [u8; 24], u64), Failed> {
+    let kept = beside_saved(host)?;
+    let blank = anew(host)?;
+    Ok((kept, blank, host.fault_count(Role::Work)))
+}
+
+// An attach of another role, and writes there, leave what is kept back; an attach of Work forgets it.
 #[test]
 fn windows_beside_other_roles(rt: HostRuntime) -> Result<(), Fail> {
-    let mut windowed = Windowed::new(rt.alloc(), MemoryHost::new(rt.alloc(), 100)?);
-    let mut buf = [0; 24];
-    windowed.attach(Role::Work, "w")?;
-    windowed.write_at(0, b"first")?;
-    windowed.write_at(5, b"second")?;
-    windowed.attach(Role::Saved, "s")?;
-    windowed.write(Role::Saved, b"bytes")?;
-    windowed.read_at(0, &mut buf)?;
-    assert_eq!(rt; &buf[..12], b"firstsecond\0".as_slice());
-    windowed.attach(Role::Work, "w")?;
-    windowed.read_at(0, &mut buf)?;
-    assert_eq!(rt; buf, [0; 24]);
-    assert_eq!(rt; written(&mut windowed)?, 0);
-    assert_eq!(rt; windowed.fault_count(Role::Work), 0);
+    let mut windowed = fresh(rt.alloc())?;
+    let seen = beside_other_roles(&mut windowed)?;
+    let wanted = (*b"firstsecond\0", [0; 24], 0);
+    assert_eq!(rt; (seen, written(&mut windowed)?), (wanted, 0));
     Ok(())
 }
 
-const AGAIN: [Step; 11] = [
+const AGAIN: &[Step] = &[
     Step::Read(0, 64),
     Step::Read(4_096, 24),
     Step::Write(4_090, b"abcdefghijkl"),
@@ -330,27 +403,20 @@ const AGAIN: [Step; 11] = [
 // that was read is written where it lies.
 #[test]
 fn a_window_is_read_once(rt: HostRuntime) -> Result<(), Fail> {
-    let mut plain = MemoryHost::new(rt.alloc(), 100)?;
-    plain.attach(Role::Work, "w")?;
-    let mut windowed = opened(rt.alloc(), 5)?;
-    assert_eq!(rt; first_apart(&mut plain, &mut windowed, &AGAIN), None);
-    assert_eq!(rt; windowed.fault_count(Role::Work), 0);
+    assert_eq!(rt; first_behind_attach(rt.alloc(), 5, AGAIN)?, (None, 0));
     Ok(())
 }
 
 // The second call on Work would fail, and there is none: a page that was never written isn't read.
 #[test]
 fn a_blank_page_is_not_read(rt: HostRuntime) -> Result<(), Fail> {
-    let mut plain = MemoryHost::new(rt.alloc(), 100)?;
-    plain.attach(Role::Work, "w")?;
     let mut windowed = Windowed::new(rt.alloc(), memory(rt.alloc(), 2)?);
     windowed.attach(Role::Work, "w")?;
-    assert_eq!(rt; first_apart(&mut plain, &mut windowed, &AGAIN), None);
-    assert_eq!(rt; windowed.fault_count(Role::Work), 0);
+    assert_eq!(rt; first_beside(rt.alloc(), &mut windowed, AGAIN)?, (None, 0));
     Ok(())
 }
 
-const BESIDE: [Step; 9] = [
+const BESIDE: &[Step] = &[
     Step::Attach,
     Step::Write(8, b"one"),
     Step::Read(4_456_448, 24),
@@ -365,27 +431,40 @@ const BESIDE: [Step; 9] = [
 // The fourth would fail, and there is none: a page is read beside one that is kept back, which has its place.
 #[test]
 fn a_read_has_its_own_window(rt: HostRuntime) -> Result<(), Fail> {
-    let mut plain = MemoryHost::new(rt.alloc(), 100)?;
-    plain.attach(Role::Work, "w")?;
-    let mut windowed = opened(rt.alloc(), 4)?;
-    assert_eq!(rt; first_apart(&mut plain, &mut windowed, &BESIDE[1..]), None);
-    assert_eq!(rt; windowed.fault_count(Role::Work), 0);
+    let behind = &BESIDE[1..];
+    assert_eq!(rt; first_behind_attach(rt.alloc(), 4, behind)?, (None, 0));
     Ok(())
 }
 
-// A read that fails leaves what is kept back; a write that fails makes all windows forget, so that what is inside is read.
-#[test]
-fn windows_after_a_failure(rt: HostRuntime) -> Result<(), Fail> {
-    let mut windowed = opened(rt.alloc(), 3)?;
+// What stands in front once a write there was kept back, and a read of another page failed.
+fn behind_read<H: Host>(host: &mut H) -> Result<(bool, [u8; 8]), Failed> {
     let mut buf = [0; 8];
-    windowed.write_at(0, b"kept")?;
-    assert!(rt; windowed.read_at(4_456_448, &mut buf).is_err());
-    windowed.read_at(0, &mut buf)?;
-    assert_eq!(rt; &buf[..], b"kept\0\0\0\0".as_slice());
+    host.write_at(0, b"kept")?;
+    let failed = host.read_at(4_456_448, &mut buf).is_err();
+    host.read_at(0, &mut buf)?;
+    Ok((failed, buf))
+}
+
+// The same where a write of another page failed.
+fn behind_write<H: Host>(host: &mut H) -> Result<(bool, [u8; 8]), Failed> {
+    let mut buf = [9; 8];
+    host.write_at(0, b"lost")?;
+    let failed = host.write_at(4_456_448, b"x").is_err();
+    host.read_at(0, &mut buf)?;
+    Ok((failed, buf))
+}
+
+#[test]
+fn windows_after_a_read_that_fails(rt: HostRuntime) -> Result<(), Fail> {
     let mut windowed = opened(rt.alloc(), 3)?;
-    windowed.write_at(0, b"lost")?;
-    assert!(rt; windowed.write_at(4_456_448, b"x").is_err());
-    windowed.read_at(0, &mut buf)?;
-    assert_eq!(rt; buf, [0; 8]);
+    assert_eq!(rt; behind_read(&mut windowed)?, (true, *b"kept\0\0\0\0"));
+    Ok(())
+}
+
+// It makes all windows forget, so that what is inside is read.
+#[test]
+fn windows_after_a_write_that_fails(rt: HostRuntime) -> Result<(), Fail> {
+    let mut windowed = opened(rt.alloc(), 3)?;
+    assert_eq!(rt; behind_write(&mut windowed)?, (true, [0; 8]));
     Ok(())
 }

@@ -21,7 +21,7 @@ struct Refused {
     commands: &'static [&'static str],
 }
 
-const GUARDS: [Refused; 11] = [
+const GUARDS: &[Refused] = &[
     Refused {
         word: 2,
         commands: &["guard"],
@@ -91,7 +91,7 @@ const GUARDS: [Refused; 11] = [
     },
 ];
 
-const RESUMES: [Refused; 10] = [
+const RESUMES: &[Refused] = &[
     Refused {
         word: 2,
         commands: &["resume"],
@@ -155,7 +155,7 @@ const RESUMES: [Refused; 10] = [
 ];
 
 // The words of other commands.
-const OTHERS: [&str; 8] = [
+const OTHERS: &[&str] = &[
     "",
     "run a b c d e 4096 512 1024 1",
     "make 0 f",
@@ -179,7 +179,7 @@ struct Stated {
     steps: u32,
 }
 
-const STATED: [Stated; 6] = [
+const STATED: &[Stated] = &[
     Stated {
         command: "guard a b c d e 4096 512 1024 0 v",
         guards: true,
@@ -282,14 +282,14 @@ fn first_wrong(alloc: Global, rows: &[Refused]) -> Result<Option<&'static str>, 
 
 #[test]
 fn bad_words_of_a_vault(rt: HostRuntime) -> Result<(), Fail> {
-    assert_eq!(rt; first_wrong(rt.alloc(), &GUARDS)?, None);
-    assert_eq!(rt; first_wrong(rt.alloc(), &RESUMES)?, None);
+    assert_eq!(rt; first_wrong(rt.alloc(), GUARDS)?, None);
+    assert_eq!(rt; first_wrong(rt.alloc(), RESUMES)?, None);
     Ok(())
 }
 
 #[test]
 fn right_words_of_a_vault(rt: HostRuntime) -> Result<(), Fail> {
-    for row in &STATED {
+    for row in STATED {
         assert!(rt; is_read(rt.alloc(), row)?);
     }
     Ok(())
@@ -311,7 +311,7 @@ struct Answer {
     line: &'static str,
 }
 
-const ANSWERS: [Answer; 4] = [
+const ANSWERS: &[Answer] = &[
     Answer {
         status: Status::VaultFault { count: 3 },
         code: 15,
@@ -359,7 +359,7 @@ struct Told {
     told: &'static [Telling<'static>],
 }
 
-const TOLD: [Told; 17] = [
+const TOLD: &[Told] = &[
     Told {
         command: "run i e w s d 4096 512 1024 1",
         told: &[
@@ -534,7 +534,7 @@ fn is_told(alloc: Global, row: &Told) -> Result<bool, AllocError> {
 
 #[test]
 fn files_of_each_command(rt: HostRuntime) -> Result<(), Fail> {
-    for row in &TOLD {
+    for row in TOLD {
         assert!(rt; is_told(rt.alloc(), row)?);
     }
     Ok(())
