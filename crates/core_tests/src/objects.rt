@@ -22,6 +22,7 @@ use leaf_lambda::{Parts, RESERVE, merge_out, resolve, translate_in};
 use long_names::{Kind, Name};
 use object_record::RecordBuf;
 use object_table::Short;
+use std::alloc::Global;
 use std::test::Fail;
 
 /// The number 3 as a short word, and as a long one.
@@ -181,6 +182,38 @@ fn go_out(
     (same, stored, before)
 }
 
+/// What comes of an object that is brought in and goes out.
+#[derive(Drop)]
+struct Course {
+    /// How many entries are free before it is brought in, and then.
+    free: (u16, u16),
+    /// How many of its fields are lambdas then.
+    lambdas: u32,
+    /// What `go_out` answers.
+    out: (bool, Option<(u32, u32)>, Option<u32>),
+}
+
+/// Brings an object in, and lets it go out.
+fn come_and_go(
+    alloc: Global,
+    p: &mut Parts,
+    s: Short,
+    buf: &mut RecordBuf,
+    last: u32,
+) -> Result<Course, Fail>
+    requires parts { IsParts p.old }
+    requires light { IsLight (core_of p.old) }
+    requires used { is_used ((core_of p.old).entries s.0).state ≡ true }
+    requires record { HasRecord buf.old }
+    requires room { body_words (object_in (raw_of buf.old)).body + HEADER ≤ largest_of p.old.segment }
+{
+    let record = buf.bytes().to_vec(alloc)?;
+    let free = bring_in(p, s, buf)?;
+    let lambdas = lambdas(p, s);
+    let out = go_out(p, s, buf, &record, last);
+    Ok(Course { free, lambdas, out })
+}
+
 /// Three pointers, of which the last is 0.
 fn name_three(buf: &mut RecordBuf)
     ensures record { HasRecord buf.new }
@@ -196,12 +229,10 @@ fn an_object_comes_and_goes(rt: HostRuntime) -> Result<(), Fail> {
     let mut p = Parts::new(rt.alloc(), 64, RESERVE + 3)?;
     let mut buf = RecordBuf::new(rt.alloc())?;
     name_three(&mut buf);
-    let record = buf.bytes().to_vec(rt.alloc())?;
     let s = known(&mut p, Name::TRUE)?;
-    let free = bring_in(&mut p, s, &mut buf)?;
-    let out = go_out(&mut p, s, &mut buf, &record, 2);
-    assert_eq!(rt; free, (RESERVE + 2, RESERVE));
-    assert_eq!(rt; out, (true, Some((3, u32::from(THREE))), Some(1_002)));
+    let Course { free, out, .. } = come_and_go(rt.alloc(), &mut p, s, &mut buf, 2)?;
+    let back = (true, Some((3, u32::from(THREE))), Some(1_002));
+    assert_eq!(rt; (free, out), ((RESERVE + 2, RESERVE), back));
     Ok(())
 }
 
@@ -268,12 +299,9 @@ fn three_hundred_pointers_come_and_go(rt: HostRuntime) -> Result<(), Fail> {
     let mut p = Parts::new(rt.alloc(), 512, 512)?;
     let mut buf = RecordBuf::new(rt.alloc())?;
     name_three_hundred(&mut buf);
-    let record = buf.bytes().to_vec(rt.alloc())?;
     let s = crowd(&mut p)?;
-    let free = bring_in(&mut p, s, &mut buf)?;
-    let count = lambdas(&p, s);
-    let out = go_out(&mut p, s, &mut buf, &record, 299);
-    assert_eq!(rt; (free, count), ((200, RESERVE), 228));
-    assert_eq!(rt; out, (true, Some((300, u32::from(THREE))), Some(10_596)));
+    let Course { free, lambdas, out } = come_and_go(rt.alloc(), &mut p, s, &mut buf, 299)?;
+    let back = (true, Some((300, u32::from(THREE))), Some(10_596));
+    assert_eq!(rt; (free, lambdas, out), ((200, RESERVE), 228, back));
     Ok(())
 }
