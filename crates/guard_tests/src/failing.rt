@@ -1,7 +1,7 @@
 // Runs over hosts that fail or lie in the middle: what the vault has then.
-use crate::commands::{find, guard, host_with, resume, vault_of};
-use crate::images::{Sample, image_of};
-use crate::states::{After, image_after};
+use crate::commands::{guard, host_of, resume, serial_in};
+use crate::images::Sample;
+use crate::states::{After, image_after, is_last, vault_after};
 use checkpoint::MemoryVault;
 use loom_outside::Role::{Saved, Transcript, Work};
 use loom_outside::{Host, LyingHost, MemoryHost};
@@ -9,27 +9,25 @@ use loom_words::Status;
 use std::alloc::Global;
 use std::test::Fail;
 
-fn host_of(alloc: Global, sample: Sample) -> Result<MemoryHost, Fail> {
-    let mut host = host_with(alloc, "")?;
-    host.add_file("i", &image_of(alloc, sample)?)?;
-    Ok(host)
+// The image of a checkpoint that is kept, of which there are two at most.
+fn kept_as(sample: Sample, serial: u64) -> Option<After> {
+    match (sample, serial) {
+        (Sample::Says, 1) => Some(After::Says6),
+        (Sample::Says, 2) => Some(After::Says13),
+        (_, 1) => Some(After::Snaps2),
+        (_, 2) => Some(After::Snaps5),
+        _ => None,
+    }
 }
 
 // The serial of the checkpoint that is found, 0 where there is none. Its image is to be the one of that serial.
 fn whole_serial(alloc: Global, vault: &mut MemoryVault, sample: Sample) -> Result<usize, Fail> {
-    let Some((serial, image)) = find(alloc, vault)? else {
+    let serial = serial_in(alloc, vault)?;
+    if serial == 0 {
         return Ok(0);
-    };
-    let (first, second) = match sample {
-        Sample::Says => (After::Says6, After::Says13),
-        _ => (After::Snaps2, After::Snaps5),
-    };
-    let want = match serial {
-        1 => image_after(alloc, sample, first)?,
-        2 => image_after(alloc, sample, second)?,
-        _ => return Err("two were kept at most".into()),
-    };
-    if image.bytes() == want.as_slice() {
+    }
+    let after = kept_as(sample, serial).ok_or("two are kept at most")?;
+    if is_last(alloc, vault, serial, sample, after)? {
         Ok(serial as usize)
     } else {
         Err("the image of a checkpoint is whole".into())
@@ -43,7 +41,7 @@ const MOST_TURNS: u64 = 2_000;
 
 // The serial that is found where the nth call on Work fails, and whether it was made.
 fn serial_without(alloc: Global, nth: u64) -> Result<(usize, bool), Fail> {
-    let mut host = host_of(alloc, Sample::Snaps)?;
+    let mut host = host_of(alloc, "", Sample::Snaps)?;
     let mut vault = MemoryVault::new(alloc)?;
     host.fail(Work, nth)?;
     let status = guard(alloc, &mut host, &mut vault, 6)?;
@@ -55,18 +53,17 @@ fn serial_without(alloc: Global, nth: u64) -> Result<(usize, bool), Fail> {
     }
 }
 
-// A call on Work may fail at each stage of a run, also while a checkpoint is written: the later the call, the later the checkpoint that is found, up to the last.
-#[test]
-fn calls_on_work_may_fail(rt: HostRuntime) -> Result<(), Fail> {
+// How often each serial is found, from the first call on up to the last: the later the call, the later the checkpoint, up to the second.
+fn found_in_turn(alloc: Global) -> Result<[u32; 3], Fail> {
     let mut met = [0u32; 3];
     let mut last = 0usize;
     for turn in 0..MOST_TURNS {
-        let (serial, made) = serial_without(rt.alloc(), 1 + 3 * turn)?;
-        assert!(rt; last <= serial);
+        let (serial, made) = serial_without(alloc, 1 + 3 * turn)?;
+        if serial < last || !made && serial != 2 {
+            return Err("a later call leaves no earlier checkpoint".into());
+        }
         if !made {
-            assert_eq!(rt; serial, 2);
-            assert!(rt; met.iter().all(|count| *count > 0));
-            return Ok(());
+            return Ok(met);
         }
         if let Some(count) = met.get_mut(serial) {
             *count = count.saturating_add(1);
@@ -76,8 +73,16 @@ fn calls_on_work_may_fail(rt: HostRuntime) -> Result<(), Fail> {
     Err("some call is the last".into())
 }
 
+// A call on Work may fail at each stage of a run, also while a checkpoint is written.
+#[test]
+fn calls_on_work_may_fail(rt: HostRuntime) -> Result<(), Fail> {
+    let met = found_in_turn(rt.alloc())?;
+    assert!(rt; met[0] > 0 && met[1] > 0 && met[2] > 0);
+    Ok(())
+}
+
 /// Which call on Transcript fails, how the run ends, what is said, and the serial that is found.
-const SAID: [(u64, Status, &[u8], usize); 4] = [
+const SAID: &[(u64, Status, &[u8], usize)] = &[
     (1, UNSAID, b"", 0),
     (2, UNSAID, b"one\n", 1),
     (3, UNSAID, b"one\ntwo\n", 2),
@@ -89,18 +94,23 @@ const UNSAID: Status = Status::WriteFault {
     count: 1,
 };
 
+// How a run ends of which the nth call on Transcript fails, what is said, and the serial that is found.
+fn is_said(
+    alloc: Global,
+    (nth, wanted, said, serial): (u64, Status, &[u8], usize),
+) -> Result<bool, Fail> {
+    let mut host = host_of(alloc, "", Sample::Says)?;
+    let mut vault = MemoryVault::new(alloc)?;
+    host.fail(Transcript, nth)?;
+    let status = guard(alloc, &mut host, &mut vault, 99)?;
+    let found = whole_serial(alloc, &mut vault, Sample::Says)?;
+    Ok(status == wanted && host.transcript() == said && found == serial)
+}
+
 #[test]
 fn calls_on_transcript_may_fail(rt: HostRuntime) -> Result<(), Fail> {
-    for (nth, wanted, said, serial) in SAID {
-        let mut host = host_of(rt.alloc(), Sample::Says)?;
-        let mut vault = MemoryVault::new(rt.alloc())?;
-        host.fail(Transcript, nth)?;
-        assert_eq!(rt;
-            (nth, guard(rt.alloc(), &mut host, &mut vault, 99)?),
-            (nth, wanted)
-        );
-        assert_eq!(rt; host.transcript(), said);
-        assert_eq!(rt; whole_serial(rt.alloc(), &mut vault, Sample::Says)?, serial);
+    for row in SAID {
+        assert_eq!(rt; (row.0, is_said(rt.alloc(), *row)?), (row.0, true));
     }
     Ok(())
 }
@@ -120,21 +130,25 @@ const UNSAVED: Status = Status::WriteFault {
     count: 1,
 };
 
-// What is answered where the nth call on Saved fails, and what it leaves. Both runs come to the same bytecode.
-fn without(alloc: Global, start: Start, nth: u64) -> Result<(Status, MemoryHost), Fail> {
-    let mut host = host_of(alloc, Sample::Snaps)?;
-    host.fail(Saved, nth)?;
-    let status = match start {
+// Runs so over a host. Both runs come to the same bytecode.
+fn run(alloc: Global, host: &mut MemoryHost, start: Start) -> Result<Status, Fail> {
+    match start {
         Start::Image => {
             let mut vault = MemoryVault::new(alloc)?;
-            guard(alloc, &mut host, &mut vault, 6)?
+            Ok(guard(alloc, host, &mut vault, 6)?)
         }
         Start::Checkpoint => {
-            let kept = image_after(alloc, Sample::Snaps, After::Snaps2)?;
-            let mut vault = vault_of(alloc, 1, &kept)?;
-            resume(alloc, &mut host, &mut vault, 4)?
+            let mut vault = vault_after(alloc, 1, Sample::Snaps, After::Snaps2)?;
+            Ok(resume(alloc, host, &mut vault, 4)?)
         }
-    };
+    }
+}
+
+// What is answered where the nth call on Saved fails, and what it leaves.
+fn without(alloc: Global, start: Start, nth: u64) -> Result<(Status, MemoryHost), Fail> {
+    let mut host = host_of(alloc, "", Sample::Snaps)?;
+    host.fail(Saved, nth)?;
+    let status = run(alloc, &mut host, start)?;
     Ok((status, host))
 }
 
@@ -149,17 +163,29 @@ fn first_untold(alloc: Global, start: Start) -> Result<u64, Fail> {
     Err("some call is the last".into())
 }
 
+// Whether the whole image is put where the nth call fails.
+fn is_put(alloc: Global, start: Start, nth: u64, want: &[u8]) -> Result<bool, Fail> {
+    let (_, host) = without(alloc, start, nth)?;
+    Ok(host.file("s") == Some(want))
+}
+
+// Whether it is ended behind the whole image where the nth call would fail, which isn't made.
+fn is_ended(alloc: Global, start: Start, nth: u64, want: &[u8]) -> Result<bool, Fail> {
+    let (_, host) = without(alloc, start, nth)?;
+    Ok(host.fault_count(Saved) == 0 && host.ended(Saved) == Some(want.len()))
+}
+
+fn last_call_ends_it(alloc: Global, start: Start, want: &[u8]) -> Result<bool, Fail> {
+    let nth = first_untold(alloc, start)?;
+    Ok(is_put(alloc, start, nth.saturating_sub(1), want)? && is_ended(alloc, start, nth, want)?)
+}
+
 // The last call on Saved ends it, behind the whole image.
 #[test]
 fn the_last_call_on_saved_ends_it(rt: HostRuntime) -> Result<(), Fail> {
     let want = image_after(rt.alloc(), Sample::Snaps, After::Snaps6)?;
     for start in [Start::Image, Start::Checkpoint] {
-        let nth = first_untold(rt.alloc(), start)?;
-        let (_, cut) = without(rt.alloc(), start, nth.saturating_sub(1))?;
-        assert_eq!(rt; cut.file("s"), Some(want.as_slice()));
-        let (_, host) = without(rt.alloc(), start, nth)?;
-        assert_eq!(rt; host.fault_count(Saved), 0);
-        assert_eq!(rt; host.ended(Saved), Some(want.len()));
+        assert!(rt; last_call_ends_it(rt.alloc(), start, &want)?);
     }
     Ok(())
 }
@@ -171,14 +197,11 @@ const MASKS: [u8; 3] = [1, 128, 255];
 
 // Whether a run of which the nth read of Work lies leaves a vault that isn't bad, with two checkpoints at most, of which one is read.
 fn is_sound(alloc: Global, nth: u64, mask: u8) -> Result<bool, Fail> {
-    let mut host = LyingHost::new(host_of(alloc, Sample::Snaps)?, nth, mask);
+    let mut host = LyingHost::new(host_of(alloc, "", Sample::Snaps)?, nth, mask);
     let mut vault = MemoryVault::new(alloc)?;
     let status = guard(alloc, &mut host, &mut vault, 6)?;
     vault.stop(0, 1);
-    let serial = match find(alloc, &mut vault)? {
-        Some((serial, _)) => serial,
-        None => 0,
-    };
+    let serial = serial_in(alloc, &mut vault)?;
     let answered = !matches!(status, Status::VaultFault { .. } | Status::VaultBad { .. });
     Ok(answered && serial <= 2 && (serial == 2 || status != Status::Done { ran: 6 }))
 }

@@ -1,11 +1,11 @@
 // What a resumed run answers to the gates of a vault, and to the bytes of an image in it.
 use crate::commands::{
-    Gate, gate_place, guard, host_with, image_place, put_gate, resume, vault_of,
+    Gate, fail_first, gate_place, guard, host_of, host_with, image_place, put_gate, resume,
 };
-use crate::images::{Sample, image_of};
-use crate::states::{After, image_after};
+use crate::images::Sample;
+use crate::states::{After, vault_after};
 use checkpoint::{MemoryVault, Vault};
-use loom_outside::Role::{Display, Events, Image, Saved, Transcript, Work};
+use loom_outside::Role::{self, Display, Events, Image, Saved, Transcript, Work};
 use loom_outside::{Host, MemoryHost};
 use loom_words::Status;
 use std::alloc::Global;
@@ -17,7 +17,7 @@ const SERIAL_END: u64 = 1 << 62;
 const MOST: u64 = 1 << 42;
 
 /// Gates, and the place of the first that is bad.
-const BAD: [(&[Gate], u64); 13] = [
+const BAD: &[(&[Gate], u64)] = &[
     (&[(0, 1, SERIAL_END, 36)], 0),
     (&[(0, 1, u64::MAX - 1, 36)], 0),
     (&[(512, 1, SERIAL_END + 1, 36)], 512),
@@ -34,7 +34,7 @@ const BAD: [(&[Gate], u64); 13] = [
 ];
 
 /// Gates that are all closed.
-const CLOSED: [&[Gate]; 5] = [
+const CLOSED: &[&[Gate]] = &[
     &[],
     &[(0, 0, 2, 36), (512, 0, 1, 36)],
     &[(0, 0, 7, 3), (512, 255, u64::MAX, u64::MAX)],
@@ -54,7 +54,7 @@ enum Damage {
 use crate::gates::Damage::{Bytes, Length};
 
 /// The rule that the image breaks then, and its place.
-const DAMAGES: [(Damage, u8, u64); 12] = [
+const DAMAGES: &[(Damage, u8, u64)] = &[
     (Bytes(0, &[0]), 1, 0),
     (Bytes(4, &[0, 0, 0, 3]), 2, 4),
     (Bytes(15, &[77]), 3, 12),
@@ -77,16 +77,26 @@ fn vault_with(alloc: Global, gates: &[Gate]) -> Result<MemoryVault, Fail> {
     Ok(vault)
 }
 
+/// The roles that no run calls where its vault or the image there is bad, and these with Work.
+const UNCALLED: &[Role] = &[Image, Events, Saved, Display, Transcript];
+
+const ALL: &[Role] = &[Image, Events, Saved, Display, Transcript, Work];
+
 // A host of which each first call fails but those on Notes, or those on Notes and Work.
 fn host_for(alloc: Global, works: bool) -> Result<MemoryHost, Fail> {
     let mut host = host_with(alloc, "")?;
-    for role in [Image, Events, Saved, Display, Transcript] {
-        host.fail(role, 1)?;
-    }
-    if !works {
-        host.fail(Work, 1)?;
-    }
+    let failing = if works { UNCALLED } else { ALL };
+    fail_first(&mut host, failing)?;
     Ok(host)
+}
+
+// How many calls have failed on these roles.
+fn faults(host: &MemoryHost) -> u64 {
+    let mut faults = 0u64;
+    for role in ALL {
+        faults = faults.saturating_add(host.fault_count(*role));
+    }
+    faults
 }
 
 // Whether a resumed run answers so, with this line, and calls no role of which the first call fails.
@@ -99,62 +109,75 @@ fn is_answered(
 ) -> Result<bool, Fail> {
     let mut host = host_for(alloc, works)?;
     let status = resume(alloc, &mut host, vault, 1)?;
-    let mut faults = 0u64;
-    for role in [Image, Events, Work, Saved, Display, Transcript] {
-        faults = faults.saturating_add(host.fault_count(role));
-    }
-    Ok(status == wanted && host.notes() == notes.as_bytes() && faults == 0)
+    Ok(status == wanted && host.notes() == notes.as_bytes() && faults(&host) == 0)
+}
+
+// Whether it answers that the gate at a place is bad.
+fn tells_bad(alloc: Global, gates: &[Gate], place: u64) -> Result<bool, Fail> {
+    let mut vault = vault_with(alloc, gates)?;
+    let notes = if place == 0 {
+        "vault bad at 0\n"
+    } else {
+        "vault bad at 512\n"
+    };
+    is_answered(alloc, &mut vault, false, Status::VaultBad { place }, notes)
 }
 
 #[test]
 fn a_bad_gate_is_told(rt: HostRuntime) -> Result<(), Fail> {
-    for (i, (gates, place)) in BAD.into_iter().enumerate() {
-        let mut vault = vault_with(rt.alloc(), gates)?;
-        let notes = if place == 0 {
-            "vault bad at 0\n"
-        } else {
-            "vault bad at 512\n"
-        };
-        let bad = Status::VaultBad { place };
-        assert_eq!(rt;
-            (i, is_answered(rt.alloc(), &mut vault, false, bad, notes)?),
-            (i, true)
-        );
+    for (i, (gates, place)) in BAD.iter().enumerate() {
+        assert_eq!(rt; (i, tells_bad(rt.alloc(), *gates, *place)?), (i, true));
     }
     Ok(())
 }
 
+// Whether it answers that there is no checkpoint.
+fn tells_none(alloc: Global, gates: &[Gate]) -> Result<bool, Fail> {
+    let mut vault = vault_with(alloc, gates)?;
+    is_answered(
+        alloc,
+        &mut vault,
+        false,
+        Status::NoCheckpoint,
+        "no checkpoint\n",
+    )
+}
+
 #[test]
 fn closed_gates_are_no_checkpoint(rt: HostRuntime) -> Result<(), Fail> {
-    for (i, gates) in CLOSED.into_iter().enumerate() {
-        let mut vault = vault_with(rt.alloc(), gates)?;
-        let (none, notes) = (Status::NoCheckpoint, "no checkpoint\n");
-        assert_eq!(rt;
-            (i, is_answered(rt.alloc(), &mut vault, false, none, notes)?),
-            (i, true)
-        );
+    for (i, gates) in CLOSED.iter().enumerate() {
+        assert_eq!(rt; (i, tells_none(rt.alloc(), *gates)?), (i, true));
     }
     Ok(())
+}
+
+/// Where a bad gate stands, how many calls on the vault pass, and the answer.
+const STOPPED: &[(u64, u64, Status, &str)] = &[
+    (0, 2, Status::VaultFault { count: 1 }, "vault fault\n"),
+    (0, 3, Status::VaultBad { place: 0 }, "vault bad at 0\n"),
+    (512, 3, Status::VaultFault { count: 1 }, "vault fault\n"),
+    (
+        512,
+        4,
+        Status::VaultBad { place: 512 },
+        "vault bad at 512\n",
+    ),
+];
+
+fn is_stopped(
+    alloc: Global,
+    (place, calls, wanted, notes): (u64, u64, Status, &str),
+) -> Result<bool, Fail> {
+    let mut vault = vault_with(alloc, &[(place, 1, SERIAL_END, 36)])?;
+    vault.fuse(calls);
+    is_answered(alloc, &mut vault, false, wanted, notes)
 }
 
 // The first gate is read by the third call and the second by the fourth, so that of the first is told before the other is read.
 #[test]
 fn a_gate_is_judged_when_it_is_read(rt: HostRuntime) -> Result<(), Fail> {
-    let rows = [
-        (0u64, 2u64, Status::VaultFault { count: 1 }, "vault fault\n"),
-        (0, 3, Status::VaultBad { place: 0 }, "vault bad at 0\n"),
-        (512, 3, Status::VaultFault { count: 1 }, "vault fault\n"),
-        (
-            512,
-            4,
-            Status::VaultBad { place: 512 },
-            "vault bad at 512\n",
-        ),
-    ];
-    for (place, calls, wanted, notes) in rows {
-        let mut vault = vault_with(rt.alloc(), &[(place, 1, SERIAL_END, 36)])?;
-        vault.fuse(calls);
-        assert!(rt; is_answered(rt.alloc(), &mut vault, false, wanted, notes)?);
+    for row in STOPPED {
+        assert!(rt; is_stopped(rt.alloc(), *row)?);
     }
     Ok(())
 }
@@ -162,7 +185,7 @@ fn a_gate_is_judged_when_it_is_read(rt: HostRuntime) -> Result<(), Fail> {
 // ---- images
 
 fn damaged(alloc: Global, damage: Damage) -> Result<MemoryVault, Fail> {
-    let mut vault = vault_of(alloc, 1, &image_after(alloc, Sample::Snaps, After::Snaps2)?)?;
+    let mut vault = vault_after(alloc, 1, Sample::Snaps, After::Snaps2)?;
     match damage {
         Bytes(offset, bytes) => {
             vault.write_at(image_place(1).saturating_add(offset), bytes)?;
@@ -172,17 +195,23 @@ fn damaged(alloc: Global, damage: Damage) -> Result<MemoryVault, Fail> {
     Ok(vault)
 }
 
+fn tells_damage(alloc: Global, (damage, rule, place): (Damage, u8, u64)) -> Result<bool, Fail> {
+    let mut vault = damaged(alloc, damage)?;
+    let notes = format!(in alloc; "image: rule {rule} at {place}\n")?;
+    is_answered(
+        alloc,
+        &mut vault,
+        true,
+        Status::ImageBad { rule, place },
+        &notes,
+    )
+}
+
 // The image is judged before Events is attached, and Image never is.
 #[test]
 fn a_damaged_image_is_told(rt: HostRuntime) -> Result<(), Fail> {
-    for (i, (damage, rule, place)) in DAMAGES.into_iter().enumerate() {
-        let mut vault = damaged(rt.alloc(), damage)?;
-        let bad = Status::ImageBad { rule, place };
-        let notes = format!(in rt.alloc(); "image: rule {rule} at {place}\n")?;
-        assert_eq!(rt;
-            (i, is_answered(rt.alloc(), &mut vault, true, bad, &notes)?),
-            (i, true)
-        );
+    for (i, row) in DAMAGES.iter().enumerate() {
+        assert_eq!(rt; (i, tells_damage(rt.alloc(), *row)?), (i, true));
     }
     Ok(())
 }
@@ -197,7 +226,7 @@ struct Claim {
 }
 
 // Four calls come before the image's first 36 bytes are read, and none follows where these are refused.
-const HEADS: [Claim; 8] = [
+const HEADS: &[Claim] = &[
     Claim {
         offset: 0,
         bytes: &[0],
@@ -329,21 +358,20 @@ fn no_image_is_told(rt: HostRuntime) -> Result<(), Fail> {
     Ok(())
 }
 
+// Whether a guarded run and one behind it go through over these gates.
+fn is_run(alloc: Global, gates: &[Gate]) -> Result<bool, Fail> {
+    let mut vault = vault_with(alloc, gates)?;
+    let mut host = host_of(alloc, "", Sample::Snaps)?;
+    let first = guard(alloc, &mut host, &mut vault, 6)?;
+    let second = resume(alloc, &mut host, &mut vault, 1)?;
+    Ok(first == Status::Done { ran: 6 } && second == Status::Done { ran: 1 })
+}
+
 // A guarded run opens a vault that is new, whatever it was.
 #[test]
 fn a_guarded_run_judges_no_gate(rt: HostRuntime) -> Result<(), Fail> {
     for (gates, _) in BAD {
-        let mut vault = vault_with(rt.alloc(), gates)?;
-        let mut host = host_with(rt.alloc(), "")?;
-        host.add_file("i", &image_of(rt.alloc(), Sample::Snaps)?)?;
-        assert_eq!(rt;
-            guard(rt.alloc(), &mut host, &mut vault, 6)?,
-            Status::Done { ran: 6 }
-        );
-        assert_eq!(rt;
-            resume(rt.alloc(), &mut host, &mut vault, 1)?,
-            Status::Done { ran: 1 }
-        );
+        assert!(rt; is_run(rt.alloc(), *gates)?);
     }
     Ok(())
 }

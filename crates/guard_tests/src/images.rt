@@ -108,7 +108,7 @@ const MESSAGES: &[Object] = &[
     (98, Method(-4_094, "86i 2", &[120])),
 ];
 
-const SNAPS: Image = Image {
+const SNAPS: &Image = &Image {
     class: SNAP,
     own: &[
         (64, Method(2, "72 76", &[33, 208, 135, 33, 208, 135])),
@@ -119,7 +119,7 @@ const SNAPS: Image = Image {
     state: [0; 5],
 };
 
-const SAYS: Image = Image {
+const SAYS: &Image = &Image {
     class: MESSAGES,
     own: &[
         (
@@ -143,7 +143,7 @@ const SAYS: Image = Image {
     state: [0; 5],
 };
 
-const SHOWS: Image = Image {
+const SHOWS: &Image = &Image {
     class: MESSAGES,
     own: &[
         (
@@ -158,7 +158,7 @@ const SHOWS: Image = Image {
     state: [0; 5],
 };
 
-const DROPS: Image = Image {
+const DROPS: &Image = &Image {
     class: MESSAGES,
     own: &[
         (
@@ -179,7 +179,7 @@ const DROPS: Image = Image {
     state: [0; 5],
 };
 
-const HEARS: Image = Image {
+const HEARS: &Image = &Image {
     class: MESSAGES,
     own: &[
         (
@@ -216,14 +216,14 @@ const PROCESSES: &[Object] = &[
     ),
 ];
 
-const SWITCHES: Image = Image {
+const SWITCHES: &Image = &Image {
     class: MESSAGES,
     own: PROCESSES,
     next: 116,
     state: [0, 0, 102, 0, 0],
 };
 
-const TICKS: Image = Image {
+const TICKS: &Image = &Image {
     class: MESSAGES,
     own: PROCESSES,
     next: 116,
@@ -231,7 +231,7 @@ const TICKS: Image = Image {
 };
 
 /// The association 8 gets another scheduler.
-const NO_START: Image = Image {
+const NO_START: &Image = &Image {
     class: MESSAGES,
     own: &[
         (64, Method(3, "72 8 102", &[34, 130, 193, 112, 208, 135])),
@@ -244,7 +244,7 @@ const NO_START: Image = Image {
 };
 
 /// It gets a number.
-const NO_PARK: Image = Image {
+const NO_PARK: &Image = &Image {
     class: MESSAGES,
     own: &[
         (64, Method(2, "72 8", &[117, 130, 193, 112, 208, 135])),
@@ -255,7 +255,7 @@ const NO_PARK: Image = Image {
 };
 
 /// Without the objects that stand in a row from 76 on, each of which holds the next.
-const CROWDED: Image = Image {
+const CROWDED: &Image = &Image {
     class: SNAP,
     own: &[
         (6, Fields(ARRAY, "76")),
@@ -277,7 +277,7 @@ const LINKS: u32 = 993;
 /// How many words the large object has.
 const WIDE: usize = 33_000;
 
-fn image_for(sample: Sample) -> Image {
+fn image_for(sample: Sample) -> &'static Image {
     match sample {
         Sample::Snaps | Sample::Wide => SNAPS,
         Sample::Says => SAYS,
@@ -333,11 +333,12 @@ fn add_fields(
     Ok(())
 }
 
+/// How many fields a context has.
+const CONTEXT: usize = 18;
+
 fn add_context(alloc: Global, builder: &mut Builder, own: Name, text: &str) -> Result<(), Fail> {
-    let mut fields = [NIL; 18];
-    for (field, word) in fields.iter_mut().zip(text.split_whitespace()) {
-        *field = value_of(word)?;
-    }
+    let mut fields = values_of(alloc, text)?;
+    fields.resize(CONTEXT, NIL)?;
     add_pointers(alloc, builder, own, Name::METHOD_CONTEXT, &fields)?;
     Ok(())
 }
@@ -410,14 +411,19 @@ fn add_wide(alloc: Global, builder: &mut Builder) -> Result<(), AllocError> {
 
 // ---- bytes
 
+fn put_state(made: &mut Vec<u8>, state: &[u32; 5]) -> Result<(), AllocError> {
+    for word in state {
+        made.extend_from_slice(&word.to_be_bytes())?;
+    }
+    Ok(())
+}
+
 // An image of version 1 as one of version 2 with these words of a state.
 fn with_state(alloc: Global, bytes: &[u8], state: &[u32; 5]) -> Result<Vec<u8>, AllocError> {
     let (head, records) = bytes.split_at(bytes.len().min(16));
     let mut made = Vec::new(alloc);
     made.extend_from_slice(head)?;
-    for word in state {
-        made.extend_from_slice(&word.to_be_bytes())?;
-    }
+    put_state(&mut made, state)?;
     made.extend_from_slice(records)?;
     if let Some(version) = made.get_mut(7) {
         *version = 2;
@@ -425,21 +431,42 @@ fn with_state(alloc: Global, bytes: &[u8], state: &[u32; 5]) -> Result<Vec<u8>, 
     Ok(made)
 }
 
+// Adds the known objects as arrays of no field.
+fn add_known(alloc: Global, builder: &mut Builder) -> Result<(), AllocError> {
+    for known in Name::known() {
+        add_pointers(alloc, builder, known, Name::ARRAY, &[])?;
+    }
+    Ok(())
+}
+
+// Adds those in a row, or the large one, where an image has them.
+fn add_rest(alloc: Global, builder: &mut Builder, sample: Sample) -> Result<(), Fail> {
+    match sample {
+        Sample::Crowded => add_row(alloc, builder),
+        Sample::Wide => Ok(add_wide(alloc, builder)?),
+        _ => Ok(()),
+    }
+}
+
+// Adds all objects of an image that differs so.
+fn add_all(
+    alloc: Global,
+    builder: &mut Builder,
+    sample: Sample,
+    with: &Changed,
+) -> Result<(), Fail> {
+    let image = image_for(sample);
+    add_known(alloc, builder)?;
+    for objects in [BASE, image.class, image.own, with.objects] {
+        add_objects(alloc, builder, objects, with.gone)?;
+    }
+    add_rest(alloc, builder, sample)
+}
+
 /// The bytes of an image that differs so from one that is run, in version 2.
 pub(crate) fn image_with(alloc: Global, sample: Sample, with: &Changed) -> Result<Vec<u8>, Fail> {
-    let image = image_for(sample);
     let mut builder = Builder::new(alloc)?;
-    for known in Name::known() {
-        add_pointers(alloc, &mut builder, known, Name::ARRAY, &[])?;
-    }
-    for objects in [BASE, image.class, image.own, with.objects] {
-        add_objects(alloc, &mut builder, objects, with.gone)?;
-    }
-    match sample {
-        Sample::Crowded => add_row(alloc, &mut builder)?,
-        Sample::Wide => add_wide(alloc, &mut builder)?,
-        _ => {}
-    }
+    add_all(alloc, &mut builder, sample, with)?;
     let bytes = builder.finish(alloc, with.next)?;
     Ok(with_state(alloc, bytes.bytes(), &with.state)?)
 }

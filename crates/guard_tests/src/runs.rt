@@ -1,8 +1,8 @@
 // Whole runs that keep checkpoints, and runs that go on from one: what they answer, say, keep, save and draw.
-use crate::commands::{find, gate_place, guard, host_with, resume, vault_of};
+use crate::commands::{find, gate_place, guard, host_of, host_with, resume};
 use crate::images::{Sample, image_of};
 use crate::runs::Begins::{Image, Kept, Own};
-use crate::states::{After, image_after};
+use crate::states::{After, image_after, is_last, is_saved, vault_after};
 use checkpoint::{MemoryVault, Vault};
 use loom_outside::MemoryHost;
 use loom_outside::Role::Saved;
@@ -461,7 +461,7 @@ const RUNS: &[Run] = &[
 fn vault_for(alloc: Global, row: &Run) -> Result<MemoryVault, Fail> {
     match &row.begins {
         Own | Image(_) => Ok(MemoryVault::new(alloc)?),
-        Kept(serial, with) => vault_of(alloc, *serial, &image_after(alloc, row.sample, *with)?),
+        Kept(serial, with) => vault_after(alloc, *serial, row.sample, *with),
     }
 }
 
@@ -483,10 +483,8 @@ fn carry_out(
 fn is_kept(alloc: Global, vault: &mut MemoryVault, row: &Run) -> Result<bool, Fail> {
     let mut serial = row.serial;
     for with in row.kept.iter().rev() {
-        let want = image_after(alloc, row.sample, *with)?;
-        match find(alloc, vault)? {
-            Some((found, image)) if found == serial && image.bytes() == want.as_slice() => {}
-            _ => return Ok(false),
+        if !is_last(alloc, vault, serial, row.sample, *with)? {
+            return Ok(false);
         }
         vault.write_at(gate_place(serial), &[0])?;
         serial = serial.saturating_sub(1);
@@ -494,16 +492,19 @@ fn is_kept(alloc: Global, vault: &mut MemoryVault, row: &Run) -> Result<bool, Fa
     Ok(find(alloc, vault)?.is_none())
 }
 
-// Whether the files that a run writes are as they are to be, and Saved is ended where it has the image.
+// Whether Saved has this image, and is ended, and Display has the picture.
+fn has_files(host: &MemoryHost, image: &[u8], picture: &[u8]) -> bool {
+    host.file("s") == Some(image)
+        && host.ended(Saved) == Some(image.len())
+        && host.file("d") == Some(picture)
+}
+
+// Whether the files that a run writes are as they are to be.
 fn is_written(alloc: Global, host: &MemoryHost, row: &Run) -> Result<bool, Fail> {
     match &row.saved {
         Some(with) => {
             let want = image_after(alloc, row.sample, *with)?;
-            Ok(
-                host.file("s") == Some(want.as_slice())
-                    && host.ended(Saved) == Some(want.len())
-                    && host.file("d") == Some(row.picture),
-            )
+            Ok(has_files(host, &want, row.picture))
         }
         None => Ok(
             host.file("s").is_none() && host.ended(Saved).is_none() && host.file("d").is_none(),
@@ -511,17 +512,27 @@ fn is_written(alloc: Global, host: &MemoryHost, row: &Run) -> Result<bool, Fail>
     }
 }
 
-fn is_right(alloc: Global, row: &Run) -> Result<bool, Fail> {
-    let mut host = host_with(alloc, row.events)?;
-    let mut vault = vault_for(alloc, row)?;
-    let status = carry_out(alloc, &mut host, &mut vault, row)?;
+// Whether a run answers and says what it has to.
+fn is_answered(
+    alloc: Global,
+    host: &mut MemoryHost,
+    vault: &mut MemoryVault,
+    row: &Run,
+) -> Result<bool, Fail> {
+    let status = carry_out(alloc, host, vault, row)?;
     Ok(
         status == row.status
             && host.notes() == row.notes.as_bytes()
-            && host.transcript() == row.said.as_bytes()
-            && is_kept(alloc, &mut vault, row)?
-            && is_written(alloc, &host, row)?,
+            && host.transcript() == row.said.as_bytes(),
     )
+}
+
+fn is_right(alloc: Global, row: &Run) -> Result<bool, Fail> {
+    let mut host = host_with(alloc, row.events)?;
+    let mut vault = vault_for(alloc, row)?;
+    let answered = is_answered(alloc, &mut host, &mut vault, row)?;
+    let kept = is_kept(alloc, &mut vault, row)?;
+    Ok(answered && kept && is_written(alloc, &host, row)?)
 }
 
 #[test]
@@ -534,28 +545,20 @@ fn runs_keep_and_go_on(rt: HostRuntime) -> Result<(), Fail> {
 
 // ---- one run behind another
 
+fn goes_on(alloc: Global, host: &mut MemoryHost, vault: &mut MemoryVault) -> Result<bool, Fail> {
+    let first = guard(alloc, host, vault, 3)?;
+    let kept = is_last(alloc, vault, 1, Sample::Snaps, After::Snaps2)?;
+    let second = resume(alloc, host, vault, 1)?;
+    Ok(first == Status::Done { ran: 3 } && kept && second == Status::Done { ran: 1 })
+}
+
 // A run of three bytecodes keeps the second, and another goes on from there.
 #[test]
 fn a_run_goes_on_from_what_was_kept(rt: HostRuntime) -> Result<(), Fail> {
-    let mut host = host_with(rt.alloc(), "")?;
+    let mut host = host_of(rt.alloc(), "", Sample::Snaps)?;
     let mut vault = MemoryVault::new(rt.alloc())?;
-    host.add_file("i", &image_of(rt.alloc(), Sample::Snaps)?)?;
-    assert_eq!(rt;
-        guard(rt.alloc(), &mut host, &mut vault, 3)?,
-        Status::Done { ran: 3 }
-    );
-    let Some((serial, image)) = find(rt.alloc(), &mut vault)? else {
-        return Err("a checkpoint was kept".into());
-    };
-    let kept = image_after(rt.alloc(), Sample::Snaps, After::Snaps2)?;
-    assert_eq!(rt; serial, 1);
-    assert_eq!(rt; image.bytes(), kept.as_slice());
-    assert_eq!(rt;
-        resume(rt.alloc(), &mut host, &mut vault, 1)?,
-        Status::Done { ran: 1 }
-    );
-    let saved = image_after(rt.alloc(), Sample::Snaps, After::Snaps3)?;
-    assert_eq!(rt; host.file("s"), Some(saved.as_slice()));
+    assert!(rt; goes_on(rt.alloc(), &mut host, &mut vault)?);
+    assert!(rt; is_saved(rt.alloc(), &host, Sample::Snaps, After::Snaps3)?);
     assert_eq!(rt; host.notes(), b"ran 3\nran 1\n".as_slice());
     Ok(())
 }
@@ -612,17 +615,12 @@ fn last_of(row: &Turns, steps: u32) -> (u64, Option<After>) {
 }
 
 fn is_last_kept(alloc: Global, row: &Turns, steps: u32) -> Result<bool, Fail> {
-    let mut host = host_with(alloc, row.events)?;
+    let mut host = host_of(alloc, row.events, row.sample)?;
     let mut vault = MemoryVault::new(alloc)?;
-    host.add_file("i", &image_of(alloc, row.sample)?)?;
     let status = guard(alloc, &mut host, &mut vault, steps)?;
-    let found = find(alloc, &mut vault)?;
-    let (serial, last) = last_of(row, steps);
-    let kept = match (found, last) {
-        (Some((found, image)), Some(with)) => {
-            found == serial && image.bytes() == image_after(alloc, row.sample, with)?.as_slice()
-        }
-        (found, last) => found.is_none() && last.is_none(),
+    let kept = match last_of(row, steps) {
+        (serial, Some(with)) => is_last(alloc, &mut vault, serial, row.sample, with)?,
+        (_, None) => find(alloc, &mut vault)?.is_none(),
     };
     Ok(kept && status == Status::Done { ran: steps })
 }

@@ -1,7 +1,10 @@
 // What is kept or saved of the images that are run. The number behind a name is that of the bytecodes that were run then, counted from the image's own start.
 // All of it is what the reference machine leaves, where each checkpoint is a start on what it kept.
+use crate::commands::{find, vault_of};
 use crate::images::Holds::{Bytes, Context, Fields};
 use crate::images::{Changed, Sample, image_with};
+use checkpoint::MemoryVault;
+use loom_outside::MemoryHost;
 use std::alloc::Global;
 use std::test::Fail;
 
@@ -493,4 +496,41 @@ fn state_of(after: After) -> &'static Changed {
 /// The bytes of an image then.
 pub(crate) fn image_after(alloc: Global, sample: Sample, after: After) -> Result<Vec<u8>, Fail> {
     image_with(alloc, sample, state_of(after))
+}
+
+/// A vault that has it as its only checkpoint, of this serial.
+pub(crate) fn vault_after(
+    alloc: Global,
+    serial: u64,
+    sample: Sample,
+    after: After,
+) -> Result<MemoryVault, Fail> {
+    let image = image_after(alloc, sample, after)?;
+    vault_of(alloc, serial, &image)
+}
+
+/// Whether the last checkpoint of a vault has this serial, and the image is its.
+pub(crate) fn is_last(
+    alloc: Global,
+    vault: &mut MemoryVault,
+    serial: u64,
+    sample: Sample,
+    after: After,
+) -> Result<bool, Fail> {
+    let want = image_after(alloc, sample, after)?;
+    match find(alloc, vault)? {
+        Some((found, image)) => Ok(found == serial && image.bytes() == want.as_slice()),
+        None => Ok(false),
+    }
+}
+
+/// Whether it is saved.
+pub(crate) fn is_saved(
+    alloc: Global,
+    host: &MemoryHost,
+    sample: Sample,
+    after: After,
+) -> Result<bool, Fail> {
+    let want = image_after(alloc, sample, after)?;
+    Ok(host.file("s") == Some(want.as_slice()))
 }

@@ -1,11 +1,11 @@
 // Runs that are stopped at each of their calls on the vault: what is found then, and that another run goes on from there.
-use crate::commands::{find, guard, host_with, resume};
+use crate::commands::{find, guard, host_with, resume, serial_in};
 use crate::images::{Sample, image_of};
 use crate::states::{After, image_after};
 use checkpoint::MemoryVault;
 use loom_outside::MemoryHost;
 use loom_words::Status;
-use std::alloc::Global;
+use std::alloc::{AllocError, Global};
 use std::test::Fail;
 
 /// A run that is stopped.
@@ -90,7 +90,7 @@ const STOPPED: &[Stopped] = &[
 ];
 
 /// How many of the ranges that weren't synced are kept, and the byte of the others.
-const STOPS: [(u64, u8); 12] = [
+const STOPS: &[(u64, u8)] = &[
     (0, 0),
     (0, 1),
     (0, 255),
@@ -125,36 +125,70 @@ fn is_through(row: &Stopped, calls: u64) -> bool {
     row.ends.iter().all(|end| *end <= calls)
 }
 
-// A vault, and the host of the run.
-fn begun(alloc: Global, row: &Stopped, image: &[u8]) -> Result<(MemoryVault, MemoryHost), Fail> {
-    let mut vault = MemoryVault::new(alloc)?;
-    if let Some(steps) = row.before {
-        let mut host = host_with(alloc, "")?;
-        host.add_file("i", image)?;
-        let _status = guard(alloc, &mut host, &mut vault, steps)?;
-        vault.stop(0, 0);
-    }
+// A host that has this image.
+fn host_of(alloc: Global, image: &[u8]) -> Result<MemoryHost, AllocError> {
     let mut host = host_with(alloc, "")?;
-    if row.before.is_none() {
-        host.add_file("i", image)?;
-    }
-    Ok((vault, host))
+    host.add_file("i", image)?;
+    Ok(host)
 }
 
-// Runs, of which so many calls on the vault pass.
+// Runs the image under guard, for a run that goes on from what it leaves.
+fn run_before(
+    alloc: Global,
+    vault: &mut MemoryVault,
+    image: &[u8],
+    steps: u32,
+) -> Result<(), AllocError> {
+    let mut host = host_of(alloc, image)?;
+    let _status = guard(alloc, &mut host, vault, steps)?;
+    vault.stop(0, 0);
+    Ok(())
+}
+
+// The vault of the run.
+fn begun(alloc: Global, row: &Stopped, image: &[u8]) -> Result<MemoryVault, Fail> {
+    let mut vault = MemoryVault::new(alloc)?;
+    if let Some(steps) = row.before {
+        run_before(alloc, &mut vault, image, steps)?;
+    }
+    Ok(vault)
+}
+
+// Runs, of which so many calls on the vault pass. A run that goes on has no image.
 fn run(
     alloc: Global,
     row: &Stopped,
-    host: &mut MemoryHost,
+    image: &[u8],
     vault: &mut MemoryVault,
     calls: u64,
-) -> Result<Status, Fail> {
+) -> Result<Status, AllocError> {
+    match row.before {
+        Some(_) => go_on(alloc, vault, calls, row.steps),
+        None => begin(alloc, vault, image, calls, row.steps),
+    }
+}
+
+fn go_on(
+    alloc: Global,
+    vault: &mut MemoryVault,
+    calls: u64,
+    steps: u32,
+) -> Result<Status, AllocError> {
+    let mut host = host_with(alloc, "")?;
     vault.fuse(calls);
-    let status = match row.before {
-        Some(_) => resume(alloc, host, vault, row.steps)?,
-        None => guard(alloc, host, vault, row.steps)?,
-    };
-    Ok(status)
+    resume(alloc, &mut host, vault, steps)
+}
+
+fn begin(
+    alloc: Global,
+    vault: &mut MemoryVault,
+    image: &[u8],
+    calls: u64,
+    steps: u32,
+) -> Result<Status, AllocError> {
+    let mut host = host_of(alloc, image)?;
+    vault.fuse(calls);
+    guard(alloc, &mut host, vault, steps)
 }
 
 // Whether what is found has one of these serials, and its image. Of serial 0 nothing is found.
@@ -183,8 +217,8 @@ fn is_right(
     calls: u64,
     (first, fill): (u64, u8),
 ) -> Result<bool, Fail> {
-    let (mut vault, mut host) = begun(alloc, row, image)?;
-    let status = run(alloc, row, &mut host, &mut vault, calls)?;
+    let mut vault = begun(alloc, row, image)?;
+    let status = run(alloc, row, image, &mut vault, calls)?;
     vault.stop(first, fill);
     let wanted = if is_through(row, calls) {
         row.status
@@ -208,8 +242,8 @@ fn first_wrong(alloc: Global, row: &Stopped) -> Result<Option<(u64, (u64, u8))>,
     let kept = images_of(alloc, row)?;
     for calls in 0..=30 {
         for stop in STOPS {
-            if !is_right(alloc, row, (&image, &kept), calls, stop)? {
-                return Ok(Some((calls, stop)));
+            if !is_right(alloc, row, (&image, &kept), calls, *stop)? {
+                return Ok(Some((calls, *stop)));
             }
         }
         if is_through(row, calls) {
@@ -235,49 +269,67 @@ const MOST_RUNS: u32 = 6;
 const STEPS: u32 = 99;
 
 /// What is said in all, and from each serial on.
-const SAID: [&[u8]; 3] = [b"one\ntwo\nthree\n", b"two\nthree\n", b"three\n"];
+const SAID: &[&[u8]] = &[b"one\ntwo\nthree\n", b"two\nthree\n", b"three\n"];
 
-// Runs from what is found in the vault, or from the image where there is nothing, with so many calls on the vault, which is stopped behind it. The answer is the
-// host, with how the run ended and the serial from which it began.
+// Runs from what is found in the vault, or from the image where there is nothing, with so many calls on the vault. The answer is how the run ended, and the serial
+// from which it began.
 fn run_once(
     alloc: Global,
+    host: &mut MemoryHost,
     vault: &mut MemoryVault,
     image: &[u8],
     calls: u64,
-    (first, fill): (u64, u8),
-) -> Result<(MemoryHost, Status, usize), Fail> {
-    let mut host = host_with(alloc, "")?;
-    let (status, serial) = match find(alloc, vault)? {
-        Some((serial, _)) => {
-            vault.fuse(calls);
-            (resume(alloc, &mut host, vault, STEPS)?, serial as usize)
-        }
-        None => {
-            host.add_file("i", image)?;
-            vault.fuse(calls);
-            (guard(alloc, &mut host, vault, STEPS)?, 0)
-        }
+) -> Result<(Status, u64), Fail> {
+    let serial = serial_in(alloc, vault)?;
+    if serial == 0 {
+        host.add_file("i", image)?;
+    }
+    vault.fuse(calls);
+    let status = if serial == 0 {
+        guard(alloc, host, vault, STEPS)?
+    } else {
+        resume(alloc, host, vault, STEPS)?
     };
-    vault.stop(first, fill);
-    Ok((host, status, serial))
+    Ok((status, serial))
 }
 
-// Whether runs of so many calls each, which are stopped so, come to the image's end: the last one saves what one run would save, and each says what comes behind its
-// checkpoint, up to where it was stopped.
+// Whether a run from this serial saves what one run would save, and says what comes behind its checkpoint; where it was stopped on the way there is no answer yet.
+fn judged(host: &MemoryHost, saved: &[u8], (status, serial): (Status, u64)) -> Option<bool> {
+    let Some(said) = SAID.get(serial as usize) else {
+        return Some(false);
+    };
+    if matches!(status, Status::Quit { .. }) {
+        return Some(host.transcript() == *said && host.file("s") == Some(saved));
+    }
+    if said.starts_with(host.transcript()) && host.file("s").is_none() {
+        None
+    } else {
+        Some(false)
+    }
+}
+
+// The same of the run that comes next in a vault, which is stopped behind it.
+fn ended(
+    alloc: Global,
+    vault: &mut MemoryVault,
+    (image, saved): (&[u8], &[u8]),
+    calls: u64,
+    (first, fill): (u64, u8),
+) -> Result<Option<bool>, Fail> {
+    let mut host = host_with(alloc, "")?;
+    let end = run_once(alloc, &mut host, vault, image, calls)?;
+    vault.stop(first, fill);
+    Ok(judged(&host, saved, end))
+}
+
+// Whether runs of so many calls each, which are stopped so, come to the image's end.
 fn comes_to_its_end(alloc: Global, calls: u64, stop: (u64, u8)) -> Result<bool, Fail> {
     let image = image_of(alloc, Sample::Says)?;
     let saved = image_after(alloc, Sample::Says, After::Says20)?;
     let mut vault = MemoryVault::new(alloc)?;
     for _ in 0..MOST_RUNS {
-        let (host, status, serial) = run_once(alloc, &mut vault, &image, calls, stop)?;
-        let Some(said) = SAID.get(serial) else {
-            return Ok(false);
-        };
-        if matches!(status, Status::Quit { .. }) {
-            return Ok(host.transcript() == *said && host.file("s") == Some(saved.as_slice()));
-        }
-        if !said.starts_with(host.transcript()) || host.file("s").is_some() {
-            return Ok(false);
+        if let Some(right) = ended(alloc, &mut vault, (&image, &saved), calls, stop)? {
+            return Ok(right);
         }
     }
     Ok(false)
@@ -288,7 +340,7 @@ fn comes_to_its_end(alloc: Global, calls: u64, stop: (u64, u8)) -> Result<bool, 
 fn runs_that_are_stopped_come_to_their_end(rt: HostRuntime) -> Result<(), Fail> {
     for calls in 14..=21 {
         for stop in STOPS {
-            assert!(rt; comes_to_its_end(rt.alloc(), calls, stop)?);
+            assert!(rt; comes_to_its_end(rt.alloc(), calls, *stop)?);
         }
     }
     Ok(())

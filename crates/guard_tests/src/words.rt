@@ -1,7 +1,7 @@
 // Words: of the commands that keep checkpoints, those that are bad, missing or extra; and of other commands, which leave the vault alone.
-use crate::commands::{ask, find, host_with, vault_of};
-use crate::images::{Sample, image_of};
-use crate::states::{After, image_after};
+use crate::commands::{ask, host_of, serial_in, words_of};
+use crate::images::Sample;
+use crate::states::{After, is_saved, vault_after};
 use checkpoint::{MemoryVault, Vault};
 use loom_outside::Role::Image;
 use loom_outside::{Host, MemoryHost};
@@ -17,7 +17,7 @@ struct Words {
     commands: &'static [&'static str],
 }
 
-const WORDS: [Words; 9] = [
+const WORDS: &[Words] = &[
     Words {
         status: Status::Usage { word: 1 },
         notes: "usage: word 1\n",
@@ -85,30 +85,42 @@ const WORDS: [Words; 9] = [
 ];
 
 // Whether a command comes to an answer; bad words do so without a call on the vault.
-fn is_answered(alloc: Global, row: &Words, command: &str) -> Result<bool, Fail> {
-    let mut host = MemoryHost::new(alloc, 100)?;
-    let mut vault = MemoryVault::new(alloc)?;
+fn answers(
+    alloc: Global,
+    host: &mut MemoryHost,
+    vault: &mut MemoryVault,
+    row: &Words,
+    command: &str,
+) -> Result<bool, AllocError> {
     if matches!(row.status, Status::Usage { .. }) {
         vault.fuse(0);
     }
-    let status = ask(alloc, &mut host, &mut vault, command)?;
-    Ok(
-        status == row.status
-            && host.notes() == row.notes.as_bytes()
-            && host.fault_count(Image) == 0
-            && vault.fault_count() == 0,
-    )
+    let status = ask(alloc, host, vault, command)?;
+    Ok(status == row.status && host.notes() == row.notes.as_bytes())
+}
+
+// The same over a host and a vault of its own, on which no call fails.
+fn is_answered(alloc: Global, row: &Words, command: &str) -> Result<bool, AllocError> {
+    let mut host = MemoryHost::new(alloc, 100)?;
+    let mut vault = MemoryVault::new(alloc)?;
+    let right = answers(alloc, &mut host, &mut vault, row, command)?;
+    Ok(right && host.fault_count(Image) == 0 && vault.fault_count() == 0)
+}
+
+// The first command of a row that doesn't.
+fn first_wrong(alloc: Global, row: &Words) -> Result<Option<&'static str>, AllocError> {
+    for command in row.commands {
+        if !is_answered(alloc, row, command)? {
+            return Ok(Some(command));
+        }
+    }
+    Ok(None)
 }
 
 #[test]
 fn words_are_read(rt: HostRuntime) -> Result<(), Fail> {
     for (i, row) in WORDS.iter().enumerate() {
-        for command in row.commands {
-            assert_eq!(rt;
-                (i, *command, is_answered(rt.alloc(), row, command)?),
-                (i, *command, true)
-            );
-        }
+        assert_eq!(rt; (i, first_wrong(rt.alloc(), row)?), (i, None));
     }
     Ok(())
 }
@@ -116,7 +128,7 @@ fn words_are_read(rt: HostRuntime) -> Result<(), Fail> {
 // ---- other commands
 
 /// Commands that don't keep checkpoints, over a host with an image `i` and no events `e`.
-const OTHERS: [&str; 9] = [
+const OTHERS: &[&str] = &[
     "run i e w s d 4096 512 1024 3",
     "run i e w s d 4096 512 1024 99",
     "run none e w s d 4096 512 1024 3",
@@ -128,59 +140,64 @@ const OTHERS: [&str; 9] = [
     "asm none w s",
 ];
 
-fn host_of(alloc: Global) -> Result<MemoryHost, Fail> {
-    let mut host = host_with(alloc, "")?;
-    host.add_file("i", &image_of(alloc, Sample::Snaps)?)?;
-    Ok(host)
-}
-
 fn ask_loom(alloc: Global, host: &mut MemoryHost, line: &str) -> Result<Status, AllocError> {
-    let mut words = Vec::new(alloc);
-    for word in line.split_whitespace() {
-        words.push(String::from_str(alloc, word)?)?;
-    }
+    let words = words_of(alloc, line)?;
     Ok(loom(alloc, host, &words))
 }
 
-// Whether a command is answered as `loom` does it, and the vault, of which no call would pass, is called by none.
-fn is_as_before(alloc: Global, command: &str) -> Result<bool, Fail> {
-    let (mut host, mut other) = (host_of(alloc)?, host_of(alloc)?);
-    let mut vault = vault_of(alloc, 1, &image_after(alloc, Sample::Snaps, After::Snaps2)?)?;
+// The answer of a command that leaves a vault alone, of which no call would pass.
+fn answer_beside(alloc: Global, host: &mut MemoryHost, command: &str) -> Result<Status, Fail> {
+    let mut vault = vault_after(alloc, 1, Sample::Snaps, After::Snaps2)?;
     vault.fuse(0);
-    let status = ask(alloc, &mut host, &mut vault, command)?;
+    let status = ask(alloc, host, &mut vault, command)?;
     let called = vault.fault_count() != 0;
     vault.stop(0, 0);
-    let kept = matches!(find(alloc, &mut vault)?, Some((1, _)));
-    Ok(
-        kept && !called
-            && status == ask_loom(alloc, &mut other, command)?
-            && host.notes() == other.notes()
-            && host.transcript() == other.transcript()
-            && host.file("s") == other.file("s")
-            && host.file("d") == other.file("d"),
-    )
+    if called || serial_in(alloc, &mut vault)? != 1 {
+        return Err("the vault is called by none".into());
+    }
+    Ok(status)
+}
+
+// Whether two hosts have the same files then.
+fn is_alike(host: &MemoryHost, other: &MemoryHost) -> bool {
+    host.notes() == other.notes()
+        && host.transcript() == other.transcript()
+        && host.file("s") == other.file("s")
+        && host.file("d") == other.file("d")
+}
+
+// Whether a command is answered as `loom` does it.
+fn is_as_before(alloc: Global, command: &str) -> Result<bool, Fail> {
+    let mut host = host_of(alloc, "", Sample::Snaps)?;
+    let mut other = host_of(alloc, "", Sample::Snaps)?;
+    let status = answer_beside(alloc, &mut host, command)?;
+    let wanted = ask_loom(alloc, &mut other, command)?;
+    Ok(status == wanted && is_alike(&host, &other))
 }
 
 #[test]
 fn other_commands_leave_the_vault_alone(rt: HostRuntime) -> Result<(), Fail> {
     for command in OTHERS {
         assert_eq!(rt;
-            (command, is_as_before(rt.alloc(), command)?),
-            (command, true)
+            (*command, is_as_before(rt.alloc(), command)?),
+            (*command, true)
         );
     }
     Ok(())
 }
 
+// Whether a run of three bytecodes keeps nothing.
+fn keeps_nothing(alloc: Global, host: &mut MemoryHost) -> Result<bool, Fail> {
+    let mut vault = MemoryVault::new(alloc)?;
+    let status = ask(alloc, host, &mut vault, OTHERS[0])?;
+    Ok(status == Status::Done { ran: 3 } && serial_in(alloc, &mut vault)? == 0)
+}
+
 // There the primitive fails, so its method is run, in a context of its own.
 #[test]
 fn a_run_keeps_nothing(rt: HostRuntime) -> Result<(), Fail> {
-    let mut host = host_of(rt.alloc())?;
-    let mut vault = MemoryVault::new(rt.alloc())?;
-    let status = ask(rt.alloc(), &mut host, &mut vault, OTHERS[0])?;
-    let saved = image_after(rt.alloc(), Sample::Snaps, After::Unkept3)?;
-    assert_eq!(rt; status, Status::Done { ran: 3 });
-    assert_eq!(rt; host.file("s"), Some(saved.as_slice()));
-    assert!(rt; find(rt.alloc(), &mut vault)?.is_none());
+    let mut host = host_of(rt.alloc(), "", Sample::Snaps)?;
+    assert!(rt; keeps_nothing(rt.alloc(), &mut host)?);
+    assert!(rt; is_saved(rt.alloc(), &host, Sample::Snaps, After::Unkept3)?);
     Ok(())
 }

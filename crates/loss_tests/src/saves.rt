@@ -11,7 +11,7 @@ use std::test::Fail;
 use std::{fs, io};
 
 /// Commands that write SAVED, one behind the other: where there is none, over an older one, and over their own image.
-const COMMANDS: [&str; 8] = [
+const COMMANDS: &[&str] = &[
     "run i e w s d 4096 512 1024 9",
     "run s e w s d 4096 512 1024 9",
     "guard i e w s d 4096 512 1024 18 v",
@@ -126,7 +126,7 @@ fn saved_is_the_old_file_or_the_new_one(rt: HostRuntime) -> Result<(), Fail> {
         let from = count(&record);
         let old = saved(&rt)?;
         assert!(rt;
-            is_same(&rt, &record, &mut host, &mut vault, line)?,
+            is_same(&rt, &record, &mut host, &mut vault, *line)?,
             "{line}"
         );
         assert_eq!(rt;

@@ -40,7 +40,7 @@ const LISTED: Status = Status::Listed { objects: OBJECTS };
 
 const ASSEMBLED: Status = Status::Assembled { objects: OBJECTS };
 
-const CONVERSIONS: [Conversion; 22] = [
+const CONVERSIONS: &[Conversion] = &[
     ("list a w c", Notes, 0, LISTED, "listed 80 objects\n", true),
     (
         "asm t w c",
@@ -154,13 +154,32 @@ fn conversions_end_as_they_should(rt: HostRuntime) -> Result<(), Fail> {
     let image = hello(rt.alloc())?.finish(rt.alloc(), HELLO_NEXT)?;
     let text = text_of(rt.alloc(), image.bytes())?;
     assert_eq!(rt; text.len(), TEXT_LEN);
-    for (i, row) in CONVERSIONS.into_iter().enumerate() {
+    for (i, row) in CONVERSIONS.iter().enumerate() {
         assert_eq!(rt;
-            (i, is_answered(rt.alloc(), image.bytes(), &text, row)?),
+            (i, is_answered(rt.alloc(), image.bytes(), &text, *row)?),
             (i, true)
         );
     }
     Ok(())
+}
+
+// The first command of each conversion and back, twice, that fails.
+fn first_failed(alloc: Global, host: &mut MemoryHost) -> Result<Option<&'static str>, Fail> {
+    for command in ["list a w t", "asm t w b", "list b w u", "asm u w d"] {
+        let status = ask(alloc, host, command)?;
+        if status.code() != 0 || host.ended(Saved).is_none() {
+            return Ok(Some(command));
+        }
+    }
+    Ok(None)
+}
+
+// Whether text and image are the same both times, and the image is 20 bytes longer than one of version 1.
+fn is_given_again(host: &MemoryHost, len: usize) -> bool {
+    let second = host.file("b").unwrap_or(&[]);
+    second.len() == len.saturating_add(20)
+        && host.file("t") == host.file("u")
+        && host.file("b") == host.file("d")
 }
 
 // An image of version 1 is assembled of its text in version 2, with 20 bytes of state more; and from then on each gives the other again.
@@ -169,14 +188,7 @@ fn each_gives_the_other(rt: HostRuntime) -> Result<(), Fail> {
     let image = hello(rt.alloc())?.finish(rt.alloc(), HELLO_NEXT)?;
     let mut host = MemoryHost::new(rt.alloc(), CHUNK)?;
     host.add_file("a", image.bytes())?;
-    for command in ["list a w t", "asm t w b", "list b w u", "asm u w d"] {
-        let status = ask(rt.alloc(), &mut host, command)?;
-        assert_eq!(rt; status.code(), 0);
-        assert!(rt; host.ended(Saved).is_some());
-    }
-    let second = host.file("b").unwrap_or(&[]);
-    assert_eq!(rt; second.len(), image.len() + 20);
-    assert!(rt; host.file("t") == host.file("u"));
-    assert!(rt; host.file("b") == host.file("d"));
+    assert_eq!(rt; first_failed(rt.alloc(), &mut host)?, None);
+    assert!(rt; is_given_again(&host, image.len()));
     Ok(())
 }

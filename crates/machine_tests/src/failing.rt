@@ -66,28 +66,32 @@ fn calls_on_work_may_fail(rt: HostRuntime) -> Result<(), Fail> {
     Ok(())
 }
 
-// The last call on Saved ends it, behind the whole image, which the call before it hadn't put yet. Where one fails, that is a fault of Saved, and Display
-// isn't attached.
-#[test]
-fn the_last_call_on_saved_ends_it(rt: HostRuntime) -> Result<(), Fail> {
-    let nth = first_untold(rt.alloc(), &UNSAVED, 1)?;
+// Whether the call before the nth on Saved comes behind the whole image, and the one before that doesn't.
+fn is_behind_all(alloc: Global, nth: u64) -> Result<bool, Fail> {
     let last = Run {
         nth: nth.saturating_sub(1),
         saved: Left::All(LENGTH),
         ..UNSAVED
     };
-    assert!(rt; is_right(rt.alloc(), &last)?);
     let earlier = Run {
         nth: nth.saturating_sub(2),
         saved: Left::Most(LENGTH - 1),
         ..UNSAVED
     };
-    assert!(rt; is_right(rt.alloc(), &earlier)?);
+    Ok(is_right(alloc, &last)? && is_right(alloc, &earlier)?)
+}
+
+// The last call on Saved ends it, behind the whole image, which the call before it hadn't put yet. Where one fails, that is a fault of Saved, and Display
+// isn't attached.
+#[test]
+fn the_last_call_on_saved_ends_it(rt: HostRuntime) -> Result<(), Fail> {
+    let nth = first_untold(rt.alloc(), &UNSAVED, 1)?;
     let none = Run {
         role: Saved,
         nth,
         ..WHOLE
     };
+    assert!(rt; is_behind_all(rt.alloc(), nth)?);
     assert!(rt; is_right(rt.alloc(), &none)?);
     Ok(())
 }

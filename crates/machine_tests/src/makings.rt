@@ -30,7 +30,7 @@ const UNSAVED: Status = Status::WriteFault {
     count: 1,
 };
 
-const MAKINGS: [Making; 6] = [
+const MAKINGS: &[Making] = &[
     Making {
         role: Saved,
         nth: 0,
@@ -174,20 +174,23 @@ fn digest_of(bytes: &[u8]) -> u128 {
     u128::from_be_bytes(Md5::digest(bytes))
 }
 
+fn digests_of(host: &MemoryHost) -> Result<[u128; 3], Fail> {
+    let saved = host.file("saved").ok_or("the image is saved")?;
+    let display = host.file("display").ok_or("the picture is drawn")?;
+    Ok([
+        digest_of(host.transcript()),
+        digest_of(saved),
+        digest_of(display),
+    ])
+}
+
 // Whether the long run leaves what the reference machine does.
 fn ends_as_known(alloc: Global, image: &[u8], words: &str) -> Result<bool, Fail> {
     let mut host = MemoryHost::new(alloc, CHUNK)?;
     host.add_file("g.loom", image)?;
     host.add_file("none", b"")?;
     let status = ask(alloc, &mut host, words)?;
-    let saved = host.file("saved").ok_or("the image is saved")?;
-    let display = host.file("display").ok_or("the picture is drawn")?;
-    let digests = [
-        digest_of(host.transcript()),
-        digest_of(saved),
-        digest_of(display),
-    ];
-    Ok(status == Status::Done { ran: 999_961 } && digests == DIGESTS)
+    Ok(status == Status::Done { ran: 999_961 } && digests_of(&host)? == DIGESTS)
 }
 
 #[test]

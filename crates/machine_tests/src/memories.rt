@@ -28,7 +28,7 @@ struct Row {
     refused: Option<MemFault>,
 }
 
-const ROWS: [Row; 21] = [
+const ROWS: &[Row] = &[
     Row {
         core: 6,
         entries: 51,
@@ -308,16 +308,22 @@ fn finds<M: ObjectMemory>(m: &mut M, selector: Reg) -> bool
     m.cache_find(TO, R, selector) && m.same(TO, R)
 }
 
+/// Whether it is found so and no other way, until it is stored into.
+fn goes<M: ObjectMemory>(m: &mut M) -> Result<bool, Stop>
+    requires fit { IsFit M.ObjectMemory m.old }
+{
+    let put = cache(m)?;
+    let found = !finds(m, TO) && finds(m, R);
+    store_field(m, R, 0, R)?;
+    Ok(put && found && !finds(m, R))
+}
+
 // A row is found on a later path, and no other, until its object is stored into.
 #[test]
 fn one_row(rt: HostRuntime) -> Result<(), Fail> {
     let plain = memory(rt.alloc(), &base(rt.alloc())?, NEXT)?;
     let mut m = BoundedMemory::new(plain, 65_536, 65_536, 26, 26);
-    assert!(rt; cache(&mut m)?);
-    assert!(rt; !finds(&mut m, TO));
-    assert!(rt; finds(&mut m, R));
-    store_field(&mut m, R, 0, R)?;
-    assert!(rt; !finds(&mut m, R));
+    assert!(rt; goes(&mut m)?);
     Ok(())
 }
 

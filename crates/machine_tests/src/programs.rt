@@ -275,7 +275,7 @@ const CROWDED_LENGTH: usize = 24_724;
 
 // The first call on a role that has a word is to attach it. Where a core is too small, the object alone is: the scheduler's association with
 // nothing pinned, at the start; and the bitmap with the context and the method, of 22 and 26 words, with 18 fields and 8 literals.
-const RUNS: [Run; 28] = [
+const RUNS: &[Run] = &[
     Run {
         sample: Sample::Cut,
         words: SHORT,

@@ -30,7 +30,7 @@ struct Run {
     refused: Option<MemFault>,
 }
 
-const RUNS: [Run; 11] = [
+const RUNS: &[Run] = &[
     Run {
         code: IDLE,
         core: 37,

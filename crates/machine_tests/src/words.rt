@@ -22,7 +22,7 @@ struct Words {
     commands: &'static [&'static str],
 }
 
-const WORDS: [Words; 13] = [
+const WORDS: &[Words] = &[
     Words {
         status: Status::Usage { word: 1 },
         notes: "usage: word 1\n",
@@ -259,7 +259,7 @@ fn first_wrong(alloc: Global, row: &Words) -> Result<Option<&'static str>, Alloc
 
 #[test]
 fn words_are_checked(rt: HostRuntime) -> Result<(), Fail> {
-    for row in &WORDS {
+    for row in WORDS {
         assert_eq!(rt; first_wrong(rt.alloc(), row)?, None);
     }
     assert_eq!(rt; Status::Usage { word: 1 }.code(), 2);

@@ -23,7 +23,7 @@ struct Row {
     stays: bool,
 }
 
-const ROWS: [Row; 16] = [
+const ROWS: &[Row] = &[
     Row {
         first: &[],
         then: &[],
@@ -114,7 +114,7 @@ const ROWS: [Row; 16] = [
 ];
 
 /// What each row begins with: the association is in A, and a class in B.
-const BEGIN: [Step; 3] = [
+const BEGIN: &[Step] = &[
     Step::Known(R::A, Object::Association),
     Step::Known(R::B, Object::Array),
     Step::Int(R::C, 0),
@@ -124,7 +124,7 @@ const BEGIN: [Step; 3] = [
 fn goes<M: ObjectMemory>(m: &mut M, row: &Row) -> Result<bool, Stop>
     requires fit { IsFit M.ObjectMemory m.old }
 {
-    take_all(m, &BEGIN)?;
+    take_all(m, BEGIN)?;
     take_all(m, row.first)?;
     take_all(m, &[Step::Remember(R::A)])?;
     if !is_cached(m, R::A.reg()) {

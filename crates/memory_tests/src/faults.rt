@@ -13,7 +13,7 @@ const RUN: Run = Run {
     entries: 160,
     next: NEXT,
     purges: true,
-    first: &STEPS,
+    first: STEPS,
     times: 0,
     again: &[],
     last: &[],

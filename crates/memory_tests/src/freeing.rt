@@ -29,7 +29,7 @@ const LINK: &[Step] = &[
 /// Nothing holds the head any more.
 const DROP: &[Step] = &[Step::Int(R::B, 1), Step::Int(R::C, 2), Step::Settle];
 
-const ROWS: [Row; 14] = [
+const ROWS: &[Row] = &[
     // a chain goes at once: there is room for its links again
     Row {
         room: 226,
@@ -233,7 +233,7 @@ struct Core {
     entries: u16,
 }
 
-const CORES: [Core; 4] = [
+const CORES: &[Core] = &[
     Core {
         words: 13,
         entries: 55,
@@ -282,7 +282,7 @@ fn first_wrong(alloc: Global, core: &Core, purges: bool) -> Result<Option<(usize
 
 #[test]
 fn dead_objects_go(rt: HostRuntime) -> Result<(), Fail> {
-    for core in &CORES {
+    for core in CORES {
         assert_eq!(rt; first_wrong(rt.alloc(), core, false)?, None);
         assert_eq!(rt; first_wrong(rt.alloc(), core, true)?, None);
     }

@@ -59,21 +59,22 @@ fn is_there_in_base(
     Ok(is_there(&mut m, events, name).ok())
 }
 
+/// The same over a host of its own.
+fn is_seen(alloc: Global, events: &EventList, name: Name) -> Result<Option<(bool, bool)>, Fail> {
+    let mut host = host_with(alloc, NEXT, 0, 0, 0)?;
+    is_there_in_base(alloc, &mut host, events, name)
+}
+
 #[test]
 fn a_purge_line_purges(rt: HostRuntime) -> Result<(), Fail> {
-    let Some(scheduler) = Name::new(SCHEDULER) else {
-        return Err("a name is even".into());
-    };
+    let scheduler = Name::new(SCHEDULER).ok_or("a name is even")?;
     let mut events = EventList::new(rt.alloc());
-    let mut host = host_with(rt.alloc(), NEXT, 0, 0, 0)?;
-    let without = is_there_in_base(rt.alloc(), &mut host, &events, scheduler)?;
-    assert_eq!(rt; without, Some((true, true)));
+    let without = is_seen(rt.alloc(), &events, scheduler)?;
     events.push(Line {
         count: 0,
         event: Event::Purge,
     })?;
-    let mut host = host_with(rt.alloc(), NEXT, 0, 0, 0)?;
-    let with = is_there_in_base(rt.alloc(), &mut host, &events, scheduler)?;
-    assert_eq!(rt; with, Some((true, false)));
+    let with = is_seen(rt.alloc(), &events, scheduler)?;
+    assert_eq!(rt; (without, with), (Some((true, true)), Some((true, false))));
     Ok(())
 }

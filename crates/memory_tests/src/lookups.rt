@@ -127,7 +127,7 @@ struct Chain {
     cached: bool,
 }
 
-const CHAINS: [Chain; 3] = [
+const CHAINS: &[Chain] = &[
     Chain {
         classes: 600,
         is_large: true,

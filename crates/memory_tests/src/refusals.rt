@@ -23,7 +23,7 @@ struct Row {
     end: Result<u32, MemFault>,
 }
 
-const ROWS: [Row; 43] = [
+const ROWS: &[Row] = &[
     // an object that is larger than the core: of two fields, and of none
     Row {
         room: OBJECTS,

@@ -6,7 +6,7 @@ use std::alloc::Global;
 use std::test::Fail;
 
 // All calls of the trait: objects are made, filled, read, pinned, marked and said; two change places; and dead ones go.
-pub(crate) const STEPS: [Step; 70] = [
+pub(crate) const STEPS: &[Step] = &[
     Step::Known(R::A, Object::Association),
     Step::Value(R::A),
     Step::Len(R::A),
@@ -88,7 +88,7 @@ struct Core {
     entries: u16,
 }
 
-const CORES: [Core; 5] = [
+const CORES: &[Core] = &[
     Core {
         words: 13,
         entries: 55,
@@ -119,7 +119,7 @@ fn run_over(core: &Core, purges: bool) -> Run {
         entries: core.entries,
         next: NEXT,
         purges,
-        first: &STEPS,
+        first: STEPS,
         times: 0,
         again: &[],
         last: &[],
@@ -134,7 +134,7 @@ fn end_over(alloc: Global, core: &Core, purges: bool) -> Result<End, Fail> {
 
 #[test]
 fn both_memories_see_the_same(rt: HostRuntime) -> Result<(), Fail> {
-    for core in &CORES {
+    for core in CORES {
         assert_eq!(rt; end_over(rt.alloc(), core, false)?, End::Same(LEFT));
         assert_eq!(rt; end_over(rt.alloc(), core, true)?, End::Same(LEFT));
     }

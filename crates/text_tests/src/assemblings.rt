@@ -16,7 +16,7 @@ const ROOM: u32 = 1_048_576;
 type Bad = (&'static str, &'static str, u32, u8);
 
 // The first line.
-const HEADS: [Bad; 26] = [
+const HEADS: &[Bad] = &[
     ("loom 68 0", "loom  68 0", 1, 0),
     ("loom 68 0", " loom 68 0", 1, 0),
     ("loom 68", "Loom 68", 1, 0),
@@ -46,7 +46,7 @@ const HEADS: [Bad; 26] = [
 ];
 
 // The name, the class and the kind of an object.
-const NAMES: [Bad; 14] = [
+const NAMES: &[Bad] = &[
     ("\n8 16 pointers", "\n8  16 pointers", 5, 0),
     ("\n8 16 pointers", "\n8 16 Pointers", 5, 0),
     ("\n8 16 pointers", "\n8 16 pointer", 5, 0),
@@ -64,7 +64,7 @@ const NAMES: [Bad; 14] = [
 ];
 
 // Values, words and bytes.
-const VALUES: [Bad; 21] = [
+const VALUES: &[Bad] = &[
     ("pointers 2 60\n12", "pointers 2 61\n12", 5, 0),
     ("pointers 2 60\n12", "pointers 2 0\n12", 5, 0),
     ("pointers 2 60\n12", "pointers 2 060\n12", 5, 0),
@@ -89,7 +89,7 @@ const VALUES: [Bad; 21] = [
 ];
 
 // Methods.
-const METHODS: [Bad; 13] = [
+const METHODS: &[Bad] = &[
     ("method 0i code 70", "method code 70", 26, 0),
     ("method 0i code 70", "method 0 code 70", 26, 0),
     ("method 0i code 70", "method 16384i code 70", 26, 0),
@@ -106,7 +106,7 @@ const METHODS: [Bad; 13] = [
 ];
 
 // Lines out of order, empty or behind the last.
-const OBJECTS: [Bad; 12] = [
+const OBJECTS: &[Bad] = &[
     ("\n66 22 pointers", "\n\n66 22 pointers", 27, 0),
     ("2 2\n", "2 2\nx", 28, 0),
     ("\n8 16 pointers", "\n7 16 pointers", 5, 4),
@@ -127,7 +127,7 @@ const OBJECTS: [Bad; 12] = [
 ];
 
 // What is judged of the whole text.
-const WHOLES: [Bad; 13] = [
+const WHOLES: &[Bad] = &[
     (
         "\n2 16 pointers\n4 16 pointers\n6 16 pointers\n8 16 pointers 2 60\n12 16 pointers",
         "\n12 16 pointers",
@@ -165,12 +165,8 @@ fn broken(line: u32, rule: u8) -> End {
     End::Unread(TextFault::Bad { line, rule })
 }
 
-// Assembles a text over a host of which the call of this number on a role fails, counted from 1.
-fn end_of(
-    alloc: Global,
-    text: &[u8],
-    failing: Option<(Role, u64)>,
-) -> Result<(End, LyingHost), Fail> {
+// A host with this text, over which the call of this number on a role fails, counted from 1.
+fn host_with(alloc: Global, text: &[u8], failing: Option<(Role, u64)>) -> Result<LyingHost, Fail> {
     let mut host = MemoryHost::new(alloc, 1_000)?;
     host.add_file("text", text)?;
     host.attach(Role::Work, "work")?;
@@ -179,8 +175,12 @@ fn end_of(
     if let Some((role, nth)) = failing {
         host.fail(role, nth)?;
     }
-    let mut host = LyingHost::new(host, 0, 0);
-    let mut disk = DiskObjects::begin(&mut host, ROOM);
+    Ok(LyingHost::new(host, 0, 0))
+}
+
+// Assembles the text and saves its image.
+fn end_over(alloc: Global, host: &mut LyingHost) -> End {
+    let mut disk = DiskObjects::begin(host, ROOM);
     let end = match assemble(alloc, &mut disk, ROOM) {
         Ok(loaded) => match save(alloc, &mut disk, loaded.next, &loaded.state) {
             Ok(()) => End::Assembled {
@@ -191,7 +191,13 @@ fn end_of(
         Err(fault) => End::Unread(fault),
     };
     let _host = disk.into_host();
-    Ok((end, host))
+    end
+}
+
+// The same of a text.
+fn end_of(alloc: Global, text: &[u8], failing: Option<(Role, u64)>) -> Result<End, Fail> {
+    let mut host = host_with(alloc, text, failing)?;
+    Ok(end_over(alloc, &mut host))
 }
 
 // The text of the base image with the first such piece changed.
@@ -209,7 +215,7 @@ fn first_wrong(alloc: Global, rows: &[Bad]) -> Result<Option<(usize, End)>, Fail
     for (i, row) in rows.iter().enumerate() {
         let (old, new, line, rule) = *row;
         let text = edited(alloc, old, new)?;
-        let (end, _host) = end_of(alloc, &text, None)?;
+        let end = end_of(alloc, &text, None)?;
         if end != broken(line, rule) {
             return Ok(Some((i, end)));
         }
@@ -219,38 +225,48 @@ fn first_wrong(alloc: Global, rows: &[Bad]) -> Result<Option<(usize, End)>, Fail
 
 #[test]
 fn breaks_of_the_first_line(rt: HostRuntime) -> Result<(), Fail> {
-    assert_eq!(rt; first_wrong(rt.alloc(), &HEADS)?, None);
+    assert_eq!(rt; first_wrong(rt.alloc(), HEADS)?, None);
     Ok(())
 }
 
 #[test]
 fn breaks_of_names_and_kinds(rt: HostRuntime) -> Result<(), Fail> {
-    assert_eq!(rt; first_wrong(rt.alloc(), &NAMES)?, None);
+    assert_eq!(rt; first_wrong(rt.alloc(), NAMES)?, None);
     Ok(())
 }
 
 #[test]
 fn breaks_of_values(rt: HostRuntime) -> Result<(), Fail> {
-    assert_eq!(rt; first_wrong(rt.alloc(), &VALUES)?, None);
+    assert_eq!(rt; first_wrong(rt.alloc(), VALUES)?, None);
     Ok(())
 }
 
 #[test]
 fn breaks_of_methods(rt: HostRuntime) -> Result<(), Fail> {
-    assert_eq!(rt; first_wrong(rt.alloc(), &METHODS)?, None);
+    assert_eq!(rt; first_wrong(rt.alloc(), METHODS)?, None);
     Ok(())
 }
 
 #[test]
 fn breaks_of_the_order_of_lines(rt: HostRuntime) -> Result<(), Fail> {
-    assert_eq!(rt; first_wrong(rt.alloc(), &OBJECTS)?, None);
+    assert_eq!(rt; first_wrong(rt.alloc(), OBJECTS)?, None);
     Ok(())
 }
 
 #[test]
 fn breaks_of_the_whole_text(rt: HostRuntime) -> Result<(), Fail> {
-    assert_eq!(rt; first_wrong(rt.alloc(), &WHOLES)?, None);
+    assert_eq!(rt; first_wrong(rt.alloc(), WHOLES)?, None);
     Ok(())
+}
+
+// The first text that ends otherwise.
+fn first_other(alloc: Global, rows: &[(&[u8], End)]) -> Result<Option<usize>, Fail> {
+    for (i, (text, end)) in rows.iter().enumerate() {
+        if end_of(alloc, *text, None)? != *end {
+            return Ok(Some(i));
+        }
+    }
+    Ok(None)
 }
 
 // What is no text of lines: nothing, a head alone, a last line without its end, and an image.
@@ -258,14 +274,13 @@ fn breaks_of_the_whole_text(rt: HostRuntime) -> Result<(), Fail> {
 fn other_files_are_no_texts(rt: HostRuntime) -> Result<(), Fail> {
     let image = base(rt.alloc())?.finish(rt.alloc(), NEXT)?;
     let unended = BASE.strip_suffix("\n").unwrap_or(BASE);
-    let (nothing, _host) = end_of(rt.alloc(), b"", None)?;
-    let (head, _host) = end_of(rt.alloc(), b"loom 68 0 0 0 0 0\n", None)?;
-    let (last, _host) = end_of(rt.alloc(), unended.as_bytes(), None)?;
-    let (binary, _host) = end_of(rt.alloc(), image.bytes(), None)?;
-    assert_eq!(rt; nothing, broken(1, 0));
-    assert_eq!(rt; head, broken(1, 3));
-    assert_eq!(rt; last, broken(27, 0));
-    assert_eq!(rt; binary, broken(1, 0));
+    let rows = [
+        (b"".as_slice(), broken(1, 0)),
+        (b"loom 68 0 0 0 0 0\n".as_slice(), broken(1, 3)),
+        (unended.as_bytes(), broken(27, 0)),
+        (image.bytes(), broken(1, 0)),
+    ];
+    assert_eq!(rt; first_other(rt.alloc(), &rows)?, None);
     Ok(())
 }
 
@@ -283,12 +298,10 @@ fn long_line(alloc: Global, digits: usize) -> Result<Vec<u8>, AllocError> {
 // A name of any number of digits is in the grammar, in a line of at most 1,048,576 bytes.
 #[test]
 fn the_longest_line(rt: HostRuntime) -> Result<(), Fail> {
-    let longest = long_line(rt.alloc(), 1_048_564)?;
-    let longer = long_line(rt.alloc(), 1_048_565)?;
-    let (name, _host) = end_of(rt.alloc(), &longest, None)?;
-    let (line, _host) = end_of(rt.alloc(), &longer, None)?;
-    assert_eq!(rt; name, broken(2, 4));
-    assert_eq!(rt; line, broken(2, 0));
+    for (digits, end) in [(1_048_564, broken(2, 4)), (1_048_565, broken(2, 0))] {
+        let text = long_line(rt.alloc(), digits)?;
+        assert_eq!(rt; end_of(rt.alloc(), &text, None)?, end);
+    }
     Ok(())
 }
 
@@ -303,32 +316,44 @@ fn wide(alloc: Global, values: u32) -> Result<Vec<u8>, AllocError> {
     Ok(text)
 }
 
+// The same with a head whose next name is behind that object's.
+fn wide_whole(alloc: Global, values: u32) -> Result<Vec<u8>, AllocError> {
+    let head = "loom 70 0 0 0 0 0";
+    let rest = wide(alloc, values)?;
+    let mut text = Vec::new(alloc);
+    text.extend_from_slice(head.as_bytes())?;
+    text.extend_from_slice(rest.get(head.len()..).unwrap_or(&[]))?;
+    Ok(text)
+}
+
 // An object has at most 65,535 values.
 #[test]
 fn the_widest_object(rt: HostRuntime) -> Result<(), Fail> {
-    let head = "loom 70 0 0 0 0 0";
-    let mut widest = Vec::new(rt.alloc());
-    widest.extend_from_slice(head.as_bytes())?;
-    widest.extend_from_slice(wide(rt.alloc(), 65_535)?.get(head.len()..).unwrap_or(&[]))?;
-    let mut wider = Vec::new(rt.alloc());
-    wider.extend_from_slice(head.as_bytes())?;
-    wider.extend_from_slice(wide(rt.alloc(), 65_536)?.get(head.len()..).unwrap_or(&[]))?;
-    let (right, _host) = end_of(rt.alloc(), &widest, None)?;
-    let (wrong, _host) = end_of(rt.alloc(), &wider, None)?;
-    assert_eq!(rt; right, End::Assembled { objects: 27 });
-    assert_eq!(rt; wrong, broken(28, 0));
+    let whole = End::Assembled { objects: 27 };
+    for (values, end) in [(65_535, whole), (65_536, broken(28, 0))] {
+        let text = wide_whole(rt.alloc(), values)?;
+        assert_eq!(rt; end_of(rt.alloc(), &text, None)?, end);
+    }
     Ok(())
+}
+
+// How the text of the base image ends, and how many bytes its image has.
+fn base_end(alloc: Global) -> Result<(End, usize), Fail> {
+    let mut host = host_with(alloc, BASE.as_bytes(), None)?;
+    let end = end_over(alloc, &mut host);
+    Ok((end, host.inner().file("image").unwrap_or(&[]).len()))
 }
 
 // The text of the base image gives its image, of version 2; a call on the file that fails is told with its count.
 #[test]
 fn the_base_image_of_its_text(rt: HostRuntime) -> Result<(), Fail> {
-    let (end, host) = end_of(rt.alloc(), BASE.as_bytes(), None)?;
-    let (unread, _host) = end_of(rt.alloc(), BASE.as_bytes(), Some((Role::Image, 1)))?;
-    let (unsaved, _host) = end_of(rt.alloc(), BASE.as_bytes(), Some((Role::Saved, 1)))?;
-    assert_eq!(rt; end, End::Assembled { objects: 26 });
-    assert_eq!(rt; host.inner().file("image").unwrap_or(&[]).len(), 672);
-    assert_eq!(rt; unread, End::Unread(TextFault::Read { count: 1 }));
-    assert_eq!(rt; unsaved, End::Unsaved(SaveFault::Write { count: 1 }));
+    let whole = End::Assembled { objects: 26 };
+    assert_eq!(rt; base_end(rt.alloc())?, (whole, 672));
+    let unread = End::Unread(TextFault::Read { count: 1 });
+    let unsaved = End::Unsaved(SaveFault::Write { count: 1 });
+    for (role, end) in [(Role::Image, unread), (Role::Saved, unsaved)] {
+        let failing = Some((role, 1));
+        assert_eq!(rt; end_of(rt.alloc(), BASE.as_bytes(), failing)?, end);
+    }
     Ok(())
 }

@@ -124,14 +124,20 @@ fn a_state_stands_in_the_first_line(rt: HostRuntime) -> Result<(), Fail> {
     let mut host = host_with(rt.alloc(), image.bytes(), None)?;
     let end = end_of(rt.alloc(), &mut host, Some(&STATE));
     let text = host.inner().file("text").unwrap_or(&[]);
-    assert_eq!(rt; end, End::Listed);
-    assert!(rt; text.starts_with(STATED.as_bytes()));
+    let stated = text.starts_with(STATED.as_bytes());
+    assert_eq!(rt; (end, stated), (End::Listed, true));
     Ok(())
 }
 
 // Whether a piece stands somewhere in a text.
 fn has(text: &[u8], piece: &[u8]) -> bool {
     text.windows(piece.len().max(1)).any(|w| w == piece)
+}
+
+fn is_picture(text: &[u8]) -> bool {
+    text.ends_with(BLIT_END.as_bytes())
+        && has(text, BLIT_METHOD.as_bytes())
+        && has(text, BLIT_WORDS.as_bytes())
 }
 
 // Words of a picture are four digits each, and a SmallInteger below 0 has its sign.
@@ -141,11 +147,8 @@ fn a_picture_as_text(rt: HostRuntime) -> Result<(), Fail> {
     let mut host = host_with(rt.alloc(), image.bytes(), None)?;
     let end = end_of(rt.alloc(), &mut host, None);
     let text = host.inner().file("text").unwrap_or(&[]);
-    assert_eq!(rt; end, End::Listed);
-    assert_eq!(rt; text.len(), BLIT_LEN);
-    assert!(rt; text.ends_with(BLIT_END.as_bytes()));
-    assert!(rt; has(text, BLIT_METHOD.as_bytes()));
-    assert!(rt; has(text, BLIT_WORDS.as_bytes()));
+    assert_eq!(rt; (end, text.len()), (End::Listed, BLIT_LEN));
+    assert!(rt; is_picture(text));
     Ok(())
 }
 

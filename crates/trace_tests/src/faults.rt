@@ -55,7 +55,7 @@ const SAID: &str = "1 66 18 112\n2 66 19 32\n";
 
 // The first call on Saved is to attach it, two are for each line, and the last ends it. Where a line can't be put whole it stays without an end,
 // and else it is ended, also behind a stop, which stays the answer where that fails.
-const FAULTS: [Fault; 17] = [
+const FAULTS: &[Fault] = &[
     (Traced::Base, 4, Saved, 1, UNWRITTEN, None, false),
     (Traced::Base, 4, Saved, 2, UNWRITTEN, Some(""), false),
     (Traced::Base, 4, Saved, 3, UNWRITTEN, Some("1 66 2"), false),
@@ -90,29 +90,30 @@ fn is_ended(alloc: Global, row: Fault) -> Result<bool, Fail> {
 
 #[test]
 fn traces_end_as_they_should(rt: HostRuntime) -> Result<(), Fail> {
-    for (i, row) in FAULTS.into_iter().enumerate() {
-        assert_eq!(rt; (i, is_ended(rt.alloc(), row)?), (i, true));
+    for (i, row) in FAULTS.iter().enumerate() {
+        assert_eq!(rt; (i, is_ended(rt.alloc(), *row)?), (i, true));
     }
     Ok(())
 }
 
-// What is no image, and what are no events.
+/// What is no image, and what are no events.
+const JUDGED: &[(&str, Status)] = &[
+    (
+        "trace e e w c 4096 512 1024 4",
+        Status::ImageBad { rule: 9, place: 0 },
+    ),
+    (
+        "trace a a w c 4096 512 1024 4",
+        Status::EventsBad { line: 1 },
+    ),
+];
+
 #[test]
 fn what_is_read_is_judged(rt: HostRuntime) -> Result<(), Fail> {
-    let rows = [
-        (
-            "trace e e w c 4096 512 1024 4",
-            Status::ImageBad { rule: 9, place: 0 },
-        ),
-        (
-            "trace a a w c 4096 512 1024 4",
-            Status::EventsBad { line: 1 },
-        ),
-    ];
-    for (command, wanted) in rows {
+    for (command, wanted) in JUDGED {
         let mut host = host_with(rt.alloc(), Traced::Base, "")?;
-        assert_eq!(rt; ask(rt.alloc(), &mut host, command)?, wanted);
-        assert!(rt; is_left(&host, None, false));
+        let status = ask(rt.alloc(), &mut host, *command)?;
+        assert_eq!(rt; (status, is_left(&host, None, false)), (*wanted, true));
     }
     Ok(())
 }

@@ -25,7 +25,7 @@ const WIDE: Need = Need {
 
 // A line tells where the machine stands before its bytecode: behind the event, the timer and the process switch of that cycle. What a row has of
 // each is what the reference machine writes.
-const TRACES: [Trace; 14] = [
+const TRACES: &[Trace] = &[
     Trace {
         traced: Traced::Base,
         events: "1 purge\n1 compact\n9 word 7\n",

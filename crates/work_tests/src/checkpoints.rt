@@ -34,7 +34,7 @@ struct Kept {
 }
 
 /// The checkpoints of a vault, from the first on. Their bytes were made apart from this repository.
-const KEPT: [Kept; 3] = [
+const KEPT: &[Kept] = &[
     Kept {
         sample: Sample::Base,
         clock: 2,
@@ -164,16 +164,22 @@ fn checkpoints_in_turn(rt: HostRuntime) -> Result<(), Fail> {
     Ok(())
 }
 
+// Opens, writes and syncs, and reads what was written and the byte before.
+fn written(vault: &mut MemoryVault) -> Result<[u8; 25], Failed> {
+    let mut bytes = [0; 25];
+    vault.open_named("CHECKPOINT", true)?;
+    vault.write_at(512, &[7; 24])?;
+    vault.sync()?;
+    vault.read_at(511, &mut bytes)?;
+    Ok(bytes)
+}
+
 // Room for an opening, a write and a sync, which go through then, and what is written is read again.
 #[test]
 fn room_is_taken(rt: HostRuntime) -> Result<(), Fail> {
     let mut vault = MemoryVault::new(rt.alloc())?;
     vault.reserve(10, 3, 24, 536)?;
-    assert!(rt; vault.open_named("CHECKPOINT", true).is_ok());
-    assert!(rt; vault.write_at(512, &[7; 24]).is_ok());
-    assert!(rt; vault.sync().is_ok());
-    let mut bytes = [0; 25];
-    assert!(rt; vault.read_at(511, &mut bytes).is_ok());
+    let bytes = written(&mut vault)?;
     assert_eq!(rt;
         (bytes[0], bytes[1], bytes[24], vault.fault_count()),
         (0, 7, 7, 0)
@@ -190,7 +196,7 @@ struct Before {
     torn: Option<(u8, u64, u64)>,
 }
 
-const BEFORE: [Before; 7] = [
+const BEFORE: &[Before] = &[
     Before {
         made: 0,
         torn: None,
@@ -222,7 +228,7 @@ const BEFORE: [Before; 7] = [
 ];
 
 /// How many of the ranges that weren't synced are kept, and the byte of the others.
-const STOPS: [(u64, u8); 12] = [
+const STOPS: &[(u64, u8)] = &[
     (0, 0),
     (0, 1),
     (0, 255),
@@ -297,8 +303,8 @@ fn first_wrong(
     through: bool,
 ) -> Result<Option<(u64, u8)>, Fail> {
     for stop in STOPS {
-        if stopped(alloc, before, calls, stop)? != Some(through) {
-            return Ok(Some(stop));
+        if stopped(alloc, before, calls, *stop)? != Some(through) {
+            return Ok(Some(*stop));
         }
     }
     Ok(None)

@@ -119,7 +119,7 @@ fn first_wrong(
 }
 
 // With room for 4 names there are 8 slots. 8 and 16 have their home at slot 7, 18 at 0, 2 and 10 at 1.
-const FILLED: [Row; 30] = [
+const FILLED: &[Row] = &[
     Row {
         call: Call::Find(8),
         answer: Ok(None),
@@ -279,7 +279,7 @@ const FILLED: [Row; 30] = [
 
 // Names that a caller was not to add, set or remove; an odd name on the way of a search and of a hole; bytes that are to be zero; and one
 // more name than is counted.
-const DAMAGED: [Row; 17] = [
+const DAMAGED: &[Row] = &[
     Row {
         call: Call::Add(2, 1, 192),
         answer: Ok(None),
@@ -380,7 +380,7 @@ const DAMAGED: [Row; 17] = [
 ];
 
 // No slot is empty: of the two slots, 2 and 4 have their home at the first, 6 and 8 at the second.
-const FULL_OF_NAMES: [Row; 5] = [
+const FULL_OF_NAMES: &[Row] = &[
     Row {
         call: Call::Add(2, 1, 48),
         answer: Ok(None),
@@ -409,7 +409,7 @@ const FULL_OF_NAMES: [Row; 5] = [
 ];
 
 // What fails: the first call on Work, the write of an addition, a search, a write, a slot that is shown, and the write that closes up.
-const FAILING: [Row; 13] = [
+const FAILING: &[Row] = &[
     Row {
         call: Call::Add(2, 1, 192),
         answer: Err(Work { count: 1 }),
@@ -479,20 +479,20 @@ const FAILING: [Row; 13] = [
 
 #[test]
 fn a_directory_is_filled_and_emptied(rt: HostRuntime) -> Result<(), Fail> {
-    assert_eq!(rt; first_wrong(rt.alloc(), &[], 4, &FILLED)?, None);
+    assert_eq!(rt; first_wrong(rt.alloc(), &[], 4, FILLED)?, None);
     Ok(())
 }
 
 #[test]
 fn what_was_not_written_by_a_directory_is_damage(rt: HostRuntime) -> Result<(), Fail> {
-    assert_eq!(rt; first_wrong(rt.alloc(), &[], 4, &DAMAGED)?, None);
-    assert_eq!(rt; first_wrong(rt.alloc(), &[], 1, &FULL_OF_NAMES)?, None);
+    assert_eq!(rt; first_wrong(rt.alloc(), &[], 4, DAMAGED)?, None);
+    assert_eq!(rt; first_wrong(rt.alloc(), &[], 1, FULL_OF_NAMES)?, None);
     Ok(())
 }
 
 #[test]
 fn calls_on_work_fail(rt: HostRuntime) -> Result<(), Fail> {
     let failing = [1, 4, 10, 13, 16, 19];
-    assert_eq!(rt; first_wrong(rt.alloc(), &failing, 4, &FAILING)?, None);
+    assert_eq!(rt; first_wrong(rt.alloc(), &failing, 4, FAILING)?, None);
     Ok(())
 }

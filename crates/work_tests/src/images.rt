@@ -106,7 +106,7 @@ fn answers(alloc: Global, row: &Row) -> Result<bool, Fail> {
 
 // Each rule once, in the base image of version 1. Of the record of the name 2 the name stands at 16, the class at 20 and the kind at 32;
 // of 8 the first field at 96; of the method the size at 546, the literal count at 548, the header at 552 and the code at 556.
-const BROKEN: [Broken; 18] = [
+const BROKEN: &[Broken] = &[
     Broken {
         changes: &[(0, 88)],
         rule: 1,
@@ -210,7 +210,7 @@ const STATE: [u8; 20] = [0; 20];
 const FULL: LoadFault = LoadFault::Disk(DiskFault::Full { held: 26, room: 25 });
 
 // Lengths, room and states.
-const ROWS: [Row; 17] = [
+const ROWS: &[Row] = &[
     Row {
         state: &[],
         changes: &[],
@@ -360,7 +360,7 @@ const ROWS: [Row; 17] = [
 
 #[test]
 fn the_first_rule_that_breaks_is_told(rt: HostRuntime) -> Result<(), Fail> {
-    for row in &BROKEN {
+    for row in BROKEN {
         assert!(rt; breaks(rt.alloc(), row)?);
     }
     Ok(())
@@ -368,7 +368,7 @@ fn the_first_rule_that_breaks_is_told(rt: HostRuntime) -> Result<(), Fail> {
 
 #[test]
 fn images_are_loaded_where_there_is_room(rt: HostRuntime) -> Result<(), Fail> {
-    for row in &ROWS {
+    for row in ROWS {
         assert!(rt; answers(rt.alloc(), row)?);
     }
     Ok(())

@@ -151,7 +151,7 @@ const RECORD: DiskFault = Damaged {
 };
 
 // With room for 4 objects the directory has 192 bytes. A record of 3 bytes takes a block of 32, one of 100 bytes a block of 128.
-const OBJECTS: [Step; 46] = [
+const OBJECTS: &[Step] = &[
     Step::Get(2, Ok(None)),
     Step::Put(2, 3, 5, Ok(())),
     Step::Put(4, 100, 1, Ok(())),
@@ -202,7 +202,7 @@ const OBJECTS: [Step; 46] = [
 
 // Names that are not held; a count below 0; links of a pending name that are none; another name, a kind and a literal count that are none;
 // and a place that is none.
-const DAMAGED: [Step; 24] = [
+const DAMAGED: &[Step] = &[
     Step::Put(2, 3, 5, Ok(())),
     Step::AddCount(6, 1, Err(MISSING)),
     Step::Remove(6, Err(MISSING)),
@@ -230,7 +230,7 @@ const DAMAGED: [Step; 24] = [
 ];
 
 // What fails: the write of a new record, a read of a record, and the write of a link.
-const FAILING: [Step; 6] = [
+const FAILING: &[Step] = &[
     Step::Put(2, 3, 5, Err(Work { count: 1 })),
     Step::Put(2, 3, 5, Ok(())),
     Step::Get(2, Err(Work { count: 2 })),
@@ -241,17 +241,17 @@ const FAILING: [Step; 6] = [
 
 #[test]
 fn objects_are_put_and_removed(rt: HostRuntime) -> Result<(), Fail> {
-    check(&rt, rt.alloc(), &[], &OBJECTS)
+    check(&rt, rt.alloc(), &[], OBJECTS)
 }
 
 #[test]
 fn what_cannot_be_so_is_damaged(rt: HostRuntime) -> Result<(), Fail> {
-    check(&rt, rt.alloc(), &[], &DAMAGED)
+    check(&rt, rt.alloc(), &[], DAMAGED)
 }
 
 #[test]
 fn calls_on_work_fail(rt: HostRuntime) -> Result<(), Fail> {
-    check(&rt, rt.alloc(), &[2, 7, 11], &FAILING)
+    check(&rt, rt.alloc(), &[2, 7, 11], FAILING)
 }
 
 /// How many objects there is room for on a larger disk.
@@ -273,23 +273,30 @@ fn are_all(names: &NameList) -> bool {
         && (0..names.len()).all(|i| names.item(i).index() as usize == i + 1)
 }
 
+fn has_all(alloc: Global, disk: &mut DiskObjects<'_, LyingHost>) -> bool {
+    match disk.names(alloc) {
+        Ok(names) => are_all(&names),
+        Err(_) => false,
+    }
+}
+
+// Whether there is room for all these and for no more, and the last one is read.
+fn is_full(disk: &mut DiskObjects<'_, LyingHost>, buf: &mut RecordBuf) -> Result<bool, Fail> {
+    let full = Full {
+        held: ROOM,
+        room: ROOM,
+    };
+    let filled = fills(disk, buf)?;
+    let refused = put(disk, buf, 2 * ROOM + 2, 1, 1)? == Err(full);
+    Ok(filled && refused && get(disk, buf, 2 * ROOM)? == Ok(Some(0)))
+}
+
 #[test]
 fn the_last_object_finds_no_room(rt: HostRuntime) -> Result<(), Fail> {
     let mut host = attached(rt.alloc(), &[])?;
     let mut buf = RecordBuf::new(rt.alloc())?;
     let mut disk = DiskObjects::begin(&mut host, ROOM);
-    assert!(rt; fills(&mut disk, &mut buf)?);
-    let full = Full {
-        held: ROOM,
-        room: ROOM,
-    };
-    assert_eq!(rt; put(&mut disk, &mut buf, 2 * ROOM + 2, 1, 1)?, Err(full));
-    assert_eq!(rt; get(&mut disk, &mut buf, 2 * ROOM)?, Ok(Some(0)));
-    let names = disk.names(rt.alloc());
-    assert!(rt; names.is_ok());
-    let Ok(names) = names else {
-        return Ok(());
-    };
-    assert!(rt; are_all(&names));
+    assert!(rt; is_full(&mut disk, &mut buf)?);
+    assert!(rt; has_all(rt.alloc(), &mut disk));
     Ok(())
 }

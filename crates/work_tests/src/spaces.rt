@@ -62,7 +62,7 @@ fn first_wrong(
     Ok(None)
 }
 
-const BLOCKS: [Row; 12] = [
+const BLOCKS: &[Row] = &[
     Row {
         step: Step::Take(0, Ok(1_000)),
         end: 1_032,
@@ -114,7 +114,7 @@ const BLOCKS: [Row; 12] = [
 ];
 
 // A call on Work that fails changes nothing: the next one is answered as if it were the first.
-const FAILING: [Row; 5] = [
+const FAILING: &[Row] = &[
     Row {
         step: Step::Take(3, Ok(FROM)),
         end: FROM + 256,
@@ -139,13 +139,13 @@ const FAILING: [Row; 5] = [
 
 #[test]
 fn blocks_are_taken_and_given_back(rt: HostRuntime) -> Result<(), Fail> {
-    assert_eq!(rt; first_wrong(rt.alloc(), &[], FROM, &BLOCKS)?, None);
+    assert_eq!(rt; first_wrong(rt.alloc(), &[], FROM, BLOCKS)?, None);
     Ok(())
 }
 
 #[test]
 fn a_failed_call_is_told(rt: HostRuntime) -> Result<(), Fail> {
-    assert_eq!(rt; first_wrong(rt.alloc(), &[1, 3], FROM, &FAILING)?, None);
+    assert_eq!(rt; first_wrong(rt.alloc(), &[1, 3], FROM, FAILING)?, None);
     Ok(())
 }
 
@@ -155,7 +155,7 @@ struct Link {
     right: bool,
 }
 
-const LINKS: [Link; 8] = [
+const LINKS: &[Link] = &[
     Link {
         link: 0,
         right: true,
@@ -227,7 +227,7 @@ fn relinked(row: &Link) -> [Row; 5] {
 
 #[test]
 fn a_wrong_link_is_damaged(rt: HostRuntime) -> Result<(), Fail> {
-    for row in &LINKS {
+    for row in LINKS {
         assert_eq!(rt; first_wrong(rt.alloc(), &[], FROM, &relinked(row))?, None);
     }
     Ok(())
@@ -239,7 +239,7 @@ struct Last {
     row: Row,
 }
 
-const LAST: [Last; 4] = [
+const LAST: &[Last] = &[
     Last {
         from: LAST_END - 32,
         row: Row {
@@ -290,7 +290,7 @@ const LAST: [Last; 4] = [
 
 #[test]
 fn blocks_end_somewhere(rt: HostRuntime) -> Result<(), Fail> {
-    for last in &LAST {
+    for last in LAST {
         assert!(rt; last.from > 0);
         let rows = slice::from_ref(&last.row);
         assert_eq!(rt; first_wrong(rt.alloc(), &[], last.from, rows)?, None);
@@ -304,7 +304,7 @@ struct Size {
     class: Option<u8>,
 }
 
-const SIZES: [Size; 9] = [
+const SIZES: &[Size] = &[
     Size {
         bytes: 0,
         class: Some(0),
@@ -349,8 +349,6 @@ fn size_classes_have_room(rt: HostRuntime) {
         .iter()
         .position(|row| size_class_of(row.bytes) != row.class);
     assert_eq!(rt; wrong, None);
-    assert_eq!(rt; block_bytes(0), 32);
-    assert_eq!(rt; block_bytes(1), 64);
-    assert_eq!(rt; block_bytes(7), 4_096);
-    assert_eq!(rt; block_bytes(14), 524_288);
+    assert_eq!(rt; (block_bytes(0), block_bytes(1)), (32, 64));
+    assert_eq!(rt; (block_bytes(7), block_bytes(14)), (4_096, 524_288));
 }

@@ -111,9 +111,9 @@ fn saves(
 }
 
 // Ends a memory. The answer is the next name.
-fn winds_up(memory: &mut LoomMemory<'_, LyingHost>, lets_go: bool) -> Result<u32, End>
-    requires sound { IsSound ⟦<LyingHost as Host>⟧ memory.old }
-    requires ready { IsReady (loom_told ⟦<LyingHost as Host>⟧ memory.old) }
+fn winds_up<H: Host>(memory: &mut LoomMemory<'_, H>, lets_go: bool) -> Result<u32, End>
+    requires sound { IsSound H.Host memory.old }
+    requires ready { IsReady (loom_told H.Host memory.old) }
 {
     match let_go(memory, lets_go) {
         Ok(()) => {}
@@ -273,7 +273,7 @@ fn is_right(alloc: Global, row: &Row) -> Result<bool, Fail> {
 // With room for 128 objects the directory has 6,144 bytes, and the slot of the name 2 is number 60; its record stands in the first block. What
 // is written: an odd name in the slot; and in the record another name, and a kind that is none. So short an image is put at its end, so
 // nothing was.
-const ROWS: [Row; 8] = [
+const ROWS: &[Row] = &[
     Row {
         sample: Sample::Base,
         words: Some([7, 60, 0, 62, 5]),
