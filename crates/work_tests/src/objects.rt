@@ -273,30 +273,23 @@ fn are_all(names: &NameList) -> bool {
         && (0..names.len()).all(|i| names.item(i).index() as usize == i + 1)
 }
 
-fn has_all(alloc: Global, disk: &mut DiskObjects<'_, LyingHost>) -> bool {
-    match disk.names(alloc) {
-        Ok(names) => are_all(&names),
-        Err(_) => false,
-    }
-}
-
-// Whether there is room for all these and for no more, and the last one is read.
-fn is_full(disk: &mut DiskObjects<'_, LyingHost>, buf: &mut RecordBuf) -> Result<bool, Fail> {
-    let full = Full {
-        held: ROOM,
-        room: ROOM,
-    };
-    let filled = fills(disk, buf)?;
-    let refused = put(disk, buf, 2 * ROOM + 2, 1, 1)? == Err(full);
-    Ok(filled && refused && get(disk, buf, 2 * ROOM)? == Ok(Some(0)))
-}
-
 #[test]
 fn the_last_object_finds_no_room(rt: HostRuntime) -> Result<(), Fail> {
     let mut host = attached(rt.alloc(), &[])?;
     let mut buf = RecordBuf::new(rt.alloc())?;
     let mut disk = DiskObjects::begin(&mut host, ROOM);
-    assert!(rt; is_full(&mut disk, &mut buf)?);
-    assert!(rt; has_all(rt.alloc(), &mut disk));
+    assert!(rt; fills(&mut disk, &mut buf)?);
+    let full = Full {
+        held: ROOM,
+        room: ROOM,
+    };
+    assert_eq!(rt; put(&mut disk, &mut buf, 2 * ROOM + 2, 1, 1)?, Err(full));
+    assert_eq!(rt; get(&mut disk, &mut buf, 2 * ROOM)?, Ok(Some(0)));
+    let names = disk.names(rt.alloc());
+    assert!(rt; names.is_ok());
+    let Ok(names) = names else {
+        return Ok(());
+    };
+    assert!(rt; are_all(&names));
     Ok(())
 }
