@@ -13,7 +13,7 @@ st80=$(realpath "${1:-$top/st80}") || exit 1
 work=$(mktemp -d) || exit 1
 trap 'rm -rf "$work"' EXIT
 cd "$work" || exit 1
-ln -s "$top/kernel" kernel
+cp -R "$top/kernel" kernel
 mkdir temporary
 export TMPDIR="$work/temporary"
 : >none
@@ -237,6 +237,10 @@ cp kernel/examples/factorial.st own.st
 "$st80" build own.st -o own.st --kernel kernel >said 2>&1 </dev/null
 [ $? = 2 ] && cmp -s own.st kernel/examples/factorial.st
 tell 'an image over its source' "${?#0}"
+cp kernel/object.st before
+"$st80" build own.st -o kernel/object.st --kernel kernel >said 2>&1 </dev/null
+[ $? = 2 ] && cmp -s before kernel/object.st
+tell 'an image over the kernel' "${?#0}"
 "$st80" build - -o - --kernel kernel <own.st >made.loom 2>/dev/null && "$st80" run - --no-save <made.loom 2>/dev/null | grep -qx 2432902008176640000
 tell 'streams in place of files' "${?#0}"
 [ -z "$(ls -A temporary)" ]
