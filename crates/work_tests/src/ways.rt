@@ -270,7 +270,7 @@ fn is_right(alloc: Global, row: &Row) -> Result<bool, Fail> {
 // objects stay, and counts fall: of nil at 51, of the classes of arrays, contexts and methods at 179, 199 and 319; the association's second
 // field at 123 is nil.
 //
-// With room for 128 objects the directory has 6,144 bytes, and the slot of the name 2 is number 60; its record stands in the first block. What
+// With room for 128 objects the directory has two pages, 8,192 bytes, and the slot of the name 2 is number 60; its record stands in the first block. What
 // is written: an odd name in the slot; and in the record another name, and a kind that is none. So short an image is put at its end, so
 // nothing was.
 const ROWS: &[Row] = &[
@@ -364,10 +364,10 @@ const ROWS: &[Row] = &[
     Row {
         sample: Sample::Base,
         words: None,
-        between: Between::Writes(6_144, &[0, 0, 0, 4, 0, 0, 0, 16]),
+        between: Between::Writes(8_192, &[0, 0, 0, 4, 0, 0, 0, 16]),
         state: State::NONE,
         end: End::Unsaved(SaveFault::Disk(DiskFault::Damaged {
-            place: 6144,
+            place: 8_192,
             name: 2,
         })),
         kept: [0; 5],
@@ -377,10 +377,10 @@ const ROWS: &[Row] = &[
     Row {
         sample: Sample::Base,
         words: None,
-        between: Between::Writes(6_160, &[0, 4, 0, 0, 0, 0, 0, 0]),
+        between: Between::Writes(8_208, &[0, 4, 0, 0, 0, 0, 0, 0]),
         state: State::NONE,
         end: End::Unsaved(SaveFault::Disk(DiskFault::Damaged {
-            place: 6144,
+            place: 8_192,
             name: 2,
         })),
         kept: [0; 5],
