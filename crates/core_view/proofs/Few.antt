@@ -9,7 +9,7 @@ use Rattle.long_names.specs.declared.object.Kind.TheVariants as kind
 use Rattle.object_table.specs.Entries.{is_short, place_of}
 use Rattle.core_view.specs.Core.{Core}
 use Rattle.core_view.specs.Words.{pointers, words_for, most_len, header_in, literals_in, int_of_short}
-use Rattle.core_view.specs.Counts.{names, holders_in, holders, tally, uses, outside, IsLight}
+use Rattle.core_view.specs.Counts.{names, holders_in, holders, tally, uses, outside}
 use Rattle.core_view.specs.Kept.{IsCore}
 use Rattle.core_view.proofs.Core.{placed-used}
 
@@ -79,7 +79,3 @@ light-refs c t core light = let few = uses-few c t core in let most = core.count
 pub refs-few : (c : Core) (t : ℕ) → IsCore c → outside c t < 65536 → (c.entries t).refs < 2147483648
 unfolding outside
 refs-few c t core few = let some = uses-few c t core in let most = core.counted t in omega arith
-
-pub light-few : (c : Core) → ((t : ℕ) → (c.entries t).refs < 2147483648) → IsLight c
-unfolding outside
-light-few c few t = let some = few t in omega arith

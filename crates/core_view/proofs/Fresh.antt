@@ -1,63 +1,21 @@
 -- How many objects have no record, after a step.
-use Rattle.std.proofs.Common.{◌≡◌, ◌≢◌, ℕ, ◌+◌, ◌<◌, ◌&&◌, Bool, true, false, refl, sym, ◌∙◌, ap, arith, Option, Some, None, is_some, cond, ⊎_elim}
+use Rattle.std.proofs.Common.{◌≡◌, ◌≢◌, ℕ, ◌&&◌, Bool, true, false, refl, sym, ◌∙◌, ap, Option, Some, None, is_some, cond, ⊎_elim}
 use Rattle.std.proofs.lemmas.Bool.{cases_eq}
 use Rattle.long_names.specs.declared.object.Object.{Object}
 use Rattle.object_table.specs.declared.entry.Entry.{Entry}
-use Rattle.object_table.specs.Entries.{put, place_of, sum_below}
-use Rattle.core_view.specs.Core.{Core, with_entry}
+use Rattle.object_table.specs.Entries.{place_of, sum_below}
+use Rattle.core_view.specs.Core.{Core}
 use Rattle.core_view.specs.Held.{Disk}
-use Rattle.core_view.specs.Kept.{IsCore, IsBacked}
-use Rattle.core_view.specs.Steps.{IsAbout, IsRefStep, written}
+use Rattle.core_view.specs.Kept.{IsBacked}
+use Rattle.core_view.specs.Steps.{IsAbout, IsRefStep}
 use Rattle.core_view.specs.Purge.{fresh_by, fresh_of}
-use Rattle.core_view.proofs.Core.{placed-used}
-use Rattle.core_view.proofs.Lists.{put-here, put-there}
-use Rattle.core_view.proofs.Sums.{sum-same, sum-out}
+use Rattle.core_view.proofs.Sums.{sum-same}
 
 pub fresh-placed : (e : Entry) (p : ℕ) → place_of e.state ≡ Some p → fresh_by e ≡ cond {A = ℕ} e.flags.fresh 1 0
 fresh-placed e p at = ap (λ (o : Option ℕ). cond {A = ℕ} (is_some o && e.flags.fresh) 1 0) at
 
 pub fresh-unplaced : (e : Entry) → place_of e.state ≡ None → fresh_by e ≡ 0
 fresh-unplaced e at = ap (λ (o : Option ℕ). cond {A = ℕ} (is_some o && e.flags.fresh) 1 0) at
-
--- one entry's part
-fresh-put : (n : ℕ) (f : ℕ → Entry) (s : ℕ) (e : Entry) → s < n → sum_below n (λ q. fresh_by (put f s e q)) + fresh_by (f s) ≡ sum_below n (λ q. fresh_by (f q)) + fresh_by e
-fresh-put n f s e low =
-    let one_ = sum-out n (λ q. fresh_by (put f s e q)) s low in
-    let two = sum-out n (λ q. fresh_by (f q)) s low in
-    let same : sum_below n (put (λ q. fresh_by (put f s e q)) s 0) ≡ sum_below n (put (λ q. fresh_by (f q)) s 0) = sum-same n (put (λ q. fresh_by (f q)) s 0) (put (λ q. fresh_by (put f s e q)) s 0) (λ q below. each q) in
-    let here : fresh_by (put f s e s) ≡ fresh_by e = ap fresh_by (put-here f s e) in
-    omega arith
-  where
-    each : (q : ℕ) → put (λ q. fresh_by (put f s e q)) s 0 q ≡ put (λ q. fresh_by (f q)) s 0 q
-    each q = ⊎_elim (λ (h : q ≡ s). ap (put (λ q. fresh_by (put f s e q)) s 0) h ∙ put-here (λ q. fresh_by (put f s e q)) s 0 ∙ sym (ap (put (λ q. fresh_by (f q)) s 0) h ∙ put-here (λ q. fresh_by (f q)) s 0))
-        (λ (h : q ≢ s). put-there (λ q. fresh_by (put f s e q)) s 0 q h ∙ ap fresh_by (put-there f s e q h) ∙ sym (put-there (λ q. fresh_by (f q)) s 0 q h)) (cases_eq q s)
-
--- an object that was written has a record
-pub fresh-written : (c d : Core) (s p : ℕ) → IsCore c → place_of (c.entries s).state ≡ Some p → d ≡ with_entry c s (written (c.entries s)) → fresh_of d + cond (c.entries s).flags.fresh 1 0 ≡ fresh_of c
-unfolding fresh_of
-fresh-written c d s p core at is =
-    let step = fresh-put c.bound c.entries s (written (c.entries s)) (core.within s (placed-used (c.entries s).state p at)) in
-    let was = fresh-placed (c.entries s) p at in
-    let now : fresh_by (written (c.entries s)) ≡ 0 = fresh-placed (written (c.entries s)) p at in
-    let same : sum_below d.bound (λ q. fresh_by (d.entries q)) ≡ sum_below c.bound (λ q. fresh_by (put c.entries s (written (c.entries s)) q)) = ap (λ (x : Core). sum_below x.bound (λ q. fresh_by (x.entries q))) is in
-    omega arith
-
--- an object that has a record may go
-pub fresh-gone : (c d : Core) (s : ℕ) → IsAbout s c d → (c.entries s).flags.fresh ≡ false → place_of (d.entries s).state ≡ None → fresh_of d ≡ fresh_of c
-unfolding fresh_of
-fresh-gone c d s about clean gone = ap (λ (n : ℕ). sum_below n (λ q. fresh_by (d.entries q))) about.bound ∙ sum-same c.bound (λ q. fresh_by (c.entries q)) (λ q. fresh_by (d.entries q)) (λ q low. each q)
-  where
-    none : (o : Option ℕ) → cond {A = ℕ} (is_some o && false) 1 0 ≡ 0
-    none None = refl
-    none (Some p) = refl
-
-    each : (q : ℕ) → fresh_by (d.entries q) ≡ fresh_by (c.entries q)
-    each q = ⊎_elim (λ (h : q ≡ s). ap (λ (k : ℕ). fresh_by (d.entries k)) h ∙ fresh-unplaced (d.entries s) gone ∙ sym (ap (λ (k : ℕ). fresh_by (c.entries k)) h ∙ ap (λ (b : Bool). cond {A = ℕ} (is_some (place_of (c.entries s).state) && b) 1 0) clean ∙ none (place_of (c.entries s).state)))
-        (λ (h : q ≢ s). go h (place_of (c.entries q).state) refl) (cases_eq q s)
-      where
-        go : q ≢ s → (o : Option ℕ) → place_of (c.entries q).state ≡ o → fresh_by (d.entries q) ≡ fresh_by (c.entries q)
-        go h None e = fresh-unplaced (d.entries q) (about.leaves q h e) ∙ sym (fresh-unplaced (c.entries q) e)
-        go h (Some p) e = ap fresh_by (about.bodies q p h e)
 
 -- whether an object is fresh is whether it has no record
 pub fresh-is : (c : Core) (disk : Disk) (s p : ℕ) → IsBacked c disk → place_of (c.entries s).state ≡ Some p → cond (is_some (disk (c.entries s).name)) false true ≡ (c.entries s).flags.fresh

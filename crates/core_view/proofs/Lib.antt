@@ -18,3 +18,16 @@ pub mod Others
 pub mod Purge
 pub mod Here
 mod Examples
+pub mod LevelLaws
+pub mod ChangeLaws
+pub mod QueueLaws
+pub mod DeadLaws
+pub mod FreeLaws
+pub mod CameLaws
+pub mod CanLaws
+pub mod EndLaws
+pub mod StoreLaws
+pub mod RingLaws
+pub mod NumberLaws
+pub mod SwapLaws
+pub mod BeginLaws

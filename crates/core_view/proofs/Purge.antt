@@ -3,7 +3,7 @@ use Rattle.std.proofs.Common.{◌≡◌, ◌≢◌, ℕ, ◌+◌, ◌*◌, ◌%�
 use Rattle.std.proofs.lemmas.Grind.{common_steps}
 use Rattle.std.proofs.lemmas.Bool.{cases_eq}
 use Rattle.object_table.specs.declared.entry.Entry.{Entry}
-use Rattle.object_table.specs.Entries.{put, is_short, is_used, place_of, free_entry, sum_below}
+use Rattle.object_table.specs.Entries.{put, is_short, is_used, place_of, free_entry}
 use Rattle.core_segment.specs.Chunks.{Chunk}
 use Rattle.core_view.specs.Core.{Core, without_leaf}
 use Rattle.core_view.specs.Counts.{outside}
@@ -16,8 +16,8 @@ use Rattle.core_view.proofs.Moves.{move-outside}
 use Rattle.core_view.proofs.Steps.{outside-used}
 use Rattle.core_view.specs.Room.{is_among}
 use Rattle.core_view.specs.Purge.{IsSameBody, IsPurged, IsFreed, fresh_by, fresh_of}
-use Rattle.core_view.proofs.Sums.{sum-same, sum-out}
-use Rattle.core_view.proofs.Fresh.{fresh-placed, fresh-unplaced}
+use Rattle.core_view.proofs.Sums.{sum-out}
+use Rattle.core_view.proofs.Fresh.{fresh-placed}
 
 some-same : (x y : ℕ) → Some x ≡ Some y → x ≡ y
 some-same x y e = cc
@@ -86,19 +86,6 @@ move-purged a b d x y move = record {
 
 -- ---- leaves that go
 
-pub Freed-refl : (c : Core) → IsFreed c c
-Freed-refl c = record { bound = refl; chunks = refl; same = λ q on. refl; bodies = λ q p at. refl; leaves = λ q e. e; same_outside = λ t. refl }
-
-pub Freed-trans : (x y z : Core) → IsFreed x y → IsFreed y z → IsFreed x z
-Freed-trans x y z f g = record {
-  bound = g.bound ∙ f.bound;
-  chunks = g.chunks ∙ f.chunks;
-  same = λ q on. let last = g.same q on in last ∙ f.same q (ap (λ (e : Entry). is_used e.state) (sym last) ∙ on);
-  bodies = λ q p at. let first = f.bodies q p at in g.bodies q p (ap (λ (e : Entry). place_of e.state) first ∙ at) ∙ first;
-  leaves = λ q e. g.leaves q (f.leaves q e);
-  same_outside = λ t. g.same_outside t ∙ f.same_outside t;
-}
-
 free-is : is_used free_entry.state ≡ false
 free-is = refl
 
@@ -123,24 +110,6 @@ freed-tight c d freed tight = record {
 }
 
 -- ---- objects without records, and entries
-
-pub freed-fresh : (x y : Core) → IsFreed x y → fresh_of y ≡ fresh_of x
-unfolding fresh_of
-freed-fresh x y freed = ap (λ (n : ℕ). sum_below n (λ s. fresh_by (y.entries s))) freed.bound ∙ sum-same x.bound (λ s. fresh_by (x.entries s)) (λ s. fresh_by (y.entries s)) (λ q low. go q (place_of (x.entries q).state) refl)
-  where
-    go : (q : ℕ) (o : Option ℕ) → place_of (x.entries q).state ≡ o → fresh_by (y.entries q) ≡ fresh_by (x.entries q)
-    go q None e = fresh-unplaced (y.entries q) (freed.leaves q e) ∙ sym (fresh-unplaced (x.entries q) e)
-    go q (Some p) e = ap fresh_by (freed.bodies q p e)
-
-pub move-fresh : (x y : Core) → IsMove x y → fresh_of y ≡ fresh_of x
-unfolding fresh_of
-move-fresh x y move = ap (λ (n : ℕ). sum_below n (λ s. fresh_by (y.entries s))) move.bound ∙ sum-same x.bound (λ s. fresh_by (x.entries s)) (λ s. fresh_by (y.entries s)) (λ q low. go q (place_of (x.entries q).state) refl)
-  where
-    go : (q : ℕ) (o : Option ℕ) → place_of (x.entries q).state ≡ o → fresh_by (y.entries q) ≡ fresh_by (x.entries q)
-    go q None e = fresh-unplaced (y.entries q) (ap place_of (move.leaves q e) ∙ e) ∙ sym (fresh-unplaced (x.entries q) e)
-    go q (Some p) e =
-        let there = move.bodies q p e in
-        fresh-placed (y.entries q) there.0 there.1 ∙ ap (λ (z : Entry). cond {A = ℕ} z.flags.fresh 1 0) (move.entries q) ∙ sym (fresh-placed (x.entries q) p e)
 
 pub fresh-least : (c : Core) (s p : ℕ) → IsCore c → place_of (c.entries s).state ≡ Some p → (c.entries s).flags.fresh ≡ true → 1 ≤ fresh_of c
 unfolding fresh_of

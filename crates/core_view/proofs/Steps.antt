@@ -11,12 +11,12 @@ use Rattle.core_view.specs.Core.{Core, with_entry, with_leaf, without_leaf}
 use Rattle.core_view.specs.Words.{pointers}
 use Rattle.core_view.specs.Held.{Disk}
 use Rattle.core_view.specs.Counts.{names, one, holders_in, holders, tally, uses, outside, change_by, change_of}
-use Rattle.core_view.specs.Kept.{IsCore, IsBacked, Keeps, Stays, KeepsOver}
+use Rattle.core_view.specs.Kept.{IsCore, IsBacked, Keeps, Stays}
 use Rattle.core_view.specs.Steps.{IsSpare, IsIdle, marked_changed, with_refs_of, with_mark, IsRefStep, IsAbout}
 use Rattle.core_view.proofs.Lists.{put-here, put-there, one-here, one-other, tally-put}
 use Rattle.core_view.proofs.Core.{placed-used}
 use Rattle.core_view.proofs.Entries.{IsStep, at-entry, step-core, step-outside, touch-step, touch-held, touch-backed}
-use Rattle.core_view.proofs.Leaves.{leaf-held, leaf-backed, idle-held, idle-backed, idle-outside}
+use Rattle.core_view.proofs.Leaves.{leaf-held, leaf-backed, idle-held, idle-backed}
 
 -- ---- one after another
 
@@ -31,13 +31,6 @@ Stays-trans a b c x y disk backed = Keeps-trans disk a b c (x disk backed) (y di
 
 pub Stays-refl : (c : Core) → Stays c c
 Stays-refl c disk backed = Keeps-refl disk c backed
-
--- a step at one disk, and then one that needs none
-pub KeepsOver-stays : (a b c : Core) (was now : Disk) → KeepsOver a was b now → Stays b c → KeepsOver a was c now
-KeepsOver-stays a b c was now x y = let z = y now x.backed in record { backed = z.backed; held = z.held ∙ x.held }
-
-pub KeepsOver-trans : (a b c : Core) (p q r : Disk) → KeepsOver a p b q → KeepsOver b q c r → KeepsOver a p c r
-KeepsOver-trans a b c p q r x y = record { backed = y.backed; held = y.held ∙ x.held }
 
 pub RefStep-refl : (c : Core) → IsRefStep c c
 RefStep-refl c = record { bound = refl; chunks = refl; bodies = λ q p at. refl; leaves = λ q e. e }
@@ -144,28 +137,9 @@ pub outside-more : (c : Core) (s : ℕ) → IsCore c → 1 ≤ outside c s → u
 unfolding outside
 outside-more c s core some = let most = core.counted s in omega arith
 
-pub refs-idle : (c : Core) (s r : ℕ) → is_used (c.entries s).state ≡ true → place_of (c.entries s).state ≡ None → r ≡ 0 → IsIdle (with_refs_of c s r) s ((with_refs_of c s r).entries s).name
-refs-idle c s r used leaf none =
-    let here = put-here c.entries s (with_refs (c.entries s) r) in
-    record { used = ap (λ (e : Entry). is_used e.state) here ∙ used; leaf = ap (λ (e : Entry). place_of e.state) here ∙ leaf; name = refl; none = ap (λ (e : Entry). e.refs) here ∙ none }
-
 -- only references of an entry change
 pub refs-entry : (c : Core) (q r s : ℕ) → put c.entries q (with_refs (c.entries q) r) s ≡ with_refs (c.entries s) (put c.entries q (with_refs (c.entries q) r) s).refs
 refs-entry c q r s = at-entry c.entries q (with_refs (c.entries q) r) (λ t e. e ≡ with_refs (c.entries t) e.refs) refl (λ t away. refl) s
-
-outside-none : (c : Core) (s : ℕ) → (c.entries s).refs ≡ 0 → outside c s ≡ 0
-unfolding outside
-outside-none c s e = omega arith
-
--- what is still held keeps its name
-pub idle-keeps : (c : Core) (s m t : ℕ) → IsCore c → IsIdle c s m → 1 ≤ outside (without_leaf c s m) t → (put c.entries s free_entry t).name ≡ (c.entries t).name
-idle-keeps c s m t core idle some = ap (λ (e : Entry). e.name) (put-there c.entries s free_entry t (λ same. let out = idle-outside c s m t core idle in let none : outside c t ≡ 0 = idle-loose c s m t idle same in absurd (omega arith)))
-  where
-    idle-loose : (c : Core) (s m t : ℕ) → IsIdle c s m → t ≡ s → outside c t ≡ 0
-    idle-loose c s m t idle same = subst (λ (z : ℕ). outside c z ≡ 0) (sym same) (none c s idle.none)
-      where
-        none : (c : Core) (s : ℕ) → (c.entries s).refs ≡ 0 → outside c s ≡ 0
-        none c s e = outside-none c s e
 
 -- ---- the mark of a change
 

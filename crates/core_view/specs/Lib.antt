@@ -7,3 +7,8 @@ pub mod Once
 pub mod Steps
 pub mod Room
 pub mod Purge
+pub mod Levels
+pub mod Counted
+pub mod LevelSteps
+pub mod Dead
+pub mod Numbers

@@ -1,8 +1,0 @@
-use Rattle.counted_core.proofs.DeadLaws.{waiting-loose, none-bare}
-use Rattle.counted_core.proofs.laws.dead_names_are_found.Goals as goal
-
-pub returns-clause-pending : goal.returns-clause-pending
-returns-clause-pending c = waiting-loose
-
-pub returns-clause-none : goal.returns-clause-none
-returns-clause-none c = none-bare
