@@ -58,9 +58,6 @@ at-held a m h x s p i w old put_ = at-later m h s p i old put_.hold.step (at-mar
 held-loose : (a m h x : Core) (s p i w old : ℕ) → IsPut a m h x s p i w old → is_short w ≡ true → 1 ≤ outside h w
 held-loose a m h x s p i w old put_ is = let more = put_.hold.one_more w in let same = mark-out a m h x s p i w old w put_ in let some = put_.loose is in omega arith
 
-pub write-held_ : (a m h x : Core) (s p i w old : ℕ) → IsPut a m h x s p i w old → is_short w ≡ true → 1 ≤ outside h w
-write-held_ a m h x s p i w old put_ is = held-loose a m h x s p i w old put_ is
-
 write-out : (a m h x : Core) (s p i w old t : ℕ) → IsPut a m h x s p i w old → outside x t + one t w ≡ outside h t + one t old
 write-out a m h x s p i w old t put_ = subst (λ (c : Core). outside c t + one t w ≡ outside h t + one t old) (sym put_.write)
     (word-outside h s p i w old t put_.core_held (at-held a m h x s p i w old put_) (λ is. outside-more h w put_.core_held (held-loose a m h x s p i w old put_ is)))

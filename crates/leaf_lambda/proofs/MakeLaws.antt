@@ -7,7 +7,6 @@ use Rattle.std.proofs.lemmas.Bool.{cases_eq}
 use Rattle.std.specs.List.{slice_get}
 use Rattle.std.specs.Prelude.{take, drop}
 use Rattle.long_names.specs.Names.{NIL}
-use Rattle.long_names.specs.Objects.{body_made, OfPointers, OfWords, OfBytes, OfMethod}
 use Rattle.long_names.specs.Words.{literal_count}
 use Rattle.long_names.specs.declared.value.Value.{Value}
 use Rattle.long_names.specs.declared.value.Value.TheVariants.{Ref}
@@ -114,25 +113,6 @@ new-body entries old kind.Method len header filler v h =
     ∙ ap (λ vs. body.Method (int_of_short header) vs (take len (bytes_in (drop (literal_count (int_of_short header)) (replicate (literal_count (int_of_short header)) filler ++ replicate ((len + 1) / 2) 0))))) (values-many (meant entries old) (literal_count (int_of_short header)) filler v h)
     ∙ ap (λ ws. body.Method (int_of_short header) (replicate (literal_count (int_of_short header)) v) (take len (bytes_in ws))) (drop-many (literal_count (int_of_short header)) filler (replicate ((len + 1) / 2) 0))
     ∙ ap (λ bs. body.Method (int_of_short header) (replicate (literal_count (int_of_short header)) v) bs) (bytes-zero len ((len + 1) / 2) (omega arith))
-
--- a word of a method's
-pub method-get : (header n filler m k : ℕ) → 0 < k → k ≤ n → slice_get (header ∷ (replicate n filler ++ replicate m 0)) k ≡ Some filler
-method-get header n filler m zero some low = absurd (omega arith)
-method-get header n filler m (suc k) some low = go n k (omega arith)
-  where
-    go : (n k : ℕ) → k < n → slice_get (replicate n filler ++ replicate m 0) k ≡ Some filler
-    go zero k low = absurd (omega arith)
-    go (suc n) zero low = refl
-    go (suc n) (suc k) low = go n k (omega arith)
-
-pub method-zero : (header n filler m k : ℕ) → n < k → k < 1 + n + m → slice_get (header ∷ (replicate n filler ++ replicate m 0)) k ≡ Some 0
-method-zero header n filler m zero some low = absurd (omega arith)
-method-zero header n filler m (suc k) some low = go n k (omega arith) (omega arith)
-  where
-    go : (n k : ℕ) → n ≤ k → k < n + m → slice_get (replicate n filler ++ replicate m 0) k ≡ Some 0
-    go zero k some low = many-get m k 0 (omega arith)
-    go (suc n) zero some low = absurd (omega arith)
-    go (suc n) (suc k) some low = go n k (omega arith) (omega arith)
 
 pub fields-few : (k : Kind) (len header : ℕ) → len ≤ 65535 → fields_new k len header ≤ 65535
 fields-few kind.Pointers len header low = low
@@ -370,18 +350,6 @@ make-within a b h m d s k p w j len header run is = subst (λ (x : Core). IsWith
     finds = ap (λ (c : Core). c.find) run.chunk ∙ run.filler_held.find ∙ run.class_held.find
 
 -- ---- a new object whose fields are all nil is what the model makes
-
-pub nil-pointers : (len header : ℕ) → body_new kind.Pointers len header (Ref NIL) ≡ body_made (OfPointers len)
-nil-pointers len header = refl
-
-pub nil-words : (len header : ℕ) → body_new kind.Words len header (Ref NIL) ≡ body_made (OfWords len)
-nil-words len header = refl
-
-pub nil-bytes : (len header : ℕ) → body_new kind.Bytes len header (Ref NIL) ≡ body_made (OfBytes len)
-nil-bytes len header = refl
-
-pub nil-method : (len header : ℕ) → body_new kind.Method len header (Ref NIL) ≡ body_made (OfMethod (int_of_short header) len)
-nil-method len header = refl
 
 -- a leaf came for a name, and was made
 pub leaf-made : (a m d : Core) (s n k w : ℕ) (j : Kind) (len header : ℕ) → IsCore a → m ≡ with_leaf a s n → IsLeafStep a m → is_used (a.entries k).state ≡ true → is_used (a.entries w).state ≡ true → (a.entries w).name ≡ NIL

@@ -1,11 +1,11 @@
 -- Records that are merged from a body and an old copy.
-use Rattle.std.proofs.Common.{zero, suc, ◌≡◌, ℕ, pos, negsuc, ◌+◌, ◌-◌, ◌*◌, ◌/◌, ◌%◌, ◌<◌, ◌≤◌, Bool, true, false, cond, eqb, nat_lt, List, [], ◌∷◌, length, map, get_or, refl, sym, ◌∙◌, ap, subst, arith, Some, None}
+use Rattle.std.proofs.Common.{zero, suc, ◌≡◌, ℕ, pos, ◌+◌, ◌-◌, ◌*◌, ◌/◌, ◌%◌, ◌<◌, ◌≤◌, Bool, true, false, cond, eqb, List, [], ◌∷◌, length, map, get_or, refl, sym, ◌∙◌, ap, arith, Some, None}
 use Rattle.std.proofs.lemmas.Grind.{common_steps}
 use Rattle.std.proofs.lemmas.Option.{slice_get-get_or, get_or_from_slice_get}
 use Rattle.std.specs.List.{slice_get, slice_set}
 use Rattle.std.specs.Prelude.{take, drop}
 use Rattle.long_names.specs.Names.{IsName}
-use Rattle.long_names.specs.Words.{literal_count, IsSmallInteger}
+use Rattle.long_names.specs.Words.{literal_count}
 use Rattle.long_names.specs.declared.value.Value.{Value}
 use Rattle.long_names.specs.declared.value.Value.TheVariants.{Int, Ref}
 use Rattle.long_names.specs.declared.object.Kind.{Kind}
@@ -193,16 +193,6 @@ length-take-of (suc n) [] low = absurd (omega arith)
 length-take-of (suc n) (x ∷ xs) low = let more = length-take-of n xs (omega arith) in omega arith
 
 -- ---- long words of words
-
-pub short-small : (w : ℕ) → w < 65536 → IsSmallInteger (int_of_short w)
-short-small w fits = go (nat_lt (w / 2) 16384) refl
-  where
-    go : (b : Bool) → nat_lt (w / 2) 16384 ≡ b → IsSmallInteger (int_of_short w)
-    go true low = let number : int_of_short w ≡ pos (w / 2) = simp low refl in let small : w / 2 < 16384 = grind (arith, common_steps) in subst IsSmallInteger (sym number) small
-    go false high =
-        let number : int_of_short w ≡ negsuc (32767 - w / 2) = simp high refl in
-        let small : 32767 - w / 2 < 16384 = let most : 16384 ≤ w / 2 = grind (arith, common_steps) in omega arith in
-        subst IsSmallInteger (sym number) small
 
 pub value-odd : (long : ℕ) → long % 2 ≡ 1 → value_in long ≡ Int (int_in long)
 value-odd long odd = let is : eqb (long % 2) 1 ≡ true = grind (arith, common_steps) in simp is refl

@@ -18,7 +18,6 @@ use Rattle.object_record.specs.Objects.{int_in, value_in, body_of}
 use Rattle.object_table.specs.declared.entry.Entry.{Entry}
 use Rattle.core_view.specs.Words.{int_of_short, meant, values_by, bytes_in, header_in, literals_in, code_in, pointers, body_in, words_for, most_len}
 use Rattle.core_view.proofs.Bodies.{values-lambda}
-use Rattle.core_view.proofs.Few.{literal_count-small}
 use Rattle.leaf_lambda.specs.Records.{packed, unresolved}
 
 -- ---- bytes two to a word
@@ -265,22 +264,6 @@ raw-small (RawPointers longs) size = omega arith
 raw-small (RawWords words) size = omega arith
 raw-small (RawBytes bytes) size = size
 raw-small (RawMethod header literals code) size = omega (arith, size.1)
-
-pub raw-len-small : (b : RawBody) → HasRawSize b → raw_len b < 2 ^ 16
-raw-len-small (RawPointers longs) size = size
-raw-len-small (RawWords words) size = size
-raw-len-small (RawBytes bytes) size = size
-raw-len-small (RawMethod header literals code) size = omega (arith, size.1)
-
-pub raw-literals-small : (b : RawBody) → HasRawSize b → HasRawRange b → raw_literals b < 64
-raw-literals-small (RawPointers longs) size range = omega arith
-raw-literals-small (RawWords words) size range = omega arith
-raw-literals-small (RawBytes bytes) size range = omega arith
-raw-literals-small (RawMethod header literals code) size range =
-    let number = header-number header (value_of header) (length literals) refl size.0 range.0 in
-    let few = literal_count-small (int_in header) in
-    let same : literal_count (int_in header) ≡ length literals = number.1 in
-    omega arith
 
 -- a long word that has a value is read as this value
 pub value-is : (long : ℕ) (v : Value) → value_of long ≡ Some v → value_in long ≡ v

@@ -23,11 +23,12 @@ use Rattle.core_view.proofs.Tight.{ref-tight, word-tight}
 use Rattle.core_view.proofs.Lists.{put-there, pointers-set}
 use Rattle.core_view.proofs.Steps.{Keeps-trans, Stays-trans, Stays-refl, RefStep-refl, RefStep-trans, ref-about, About-trans, About-refl, outside-more, refs-entry, entry-changes}
 use Rattle.core_view.proofs.Words.{word-keeps, word-outside, meant-lambda, meant-short, one-zero, set-same}
-use Rattle.leaf_lambda.specs.Parts.{core_of, spare_of, leaves_for, IsLeafStep, IsNaming, IsHolding, IsDropping, IsWithin, IsSparing}
+use Rattle.leaf_lambda.specs.Parts.{core_of, spare_of, leaves_for, IsLeafStep, IsNaming, IsHolding, IsDropping, IsWithin, IsSparing, Resolves}
 use Rattle.leaf_lambda.specs.declared.translate.TheConstants.{RESERVE}
 use Rattle.leaf_lambda.specs.Records.{MayBeLambda, word_or_lambda}
 use Rattle.leaf_lambda.specs.declared.parts.Parts.{Parts}
 use Rattle.leaf_lambda.proofs.FillLaws.{written-words}
+use Rattle.leaf_lambda.proofs.RoomLaws.{Room-refl, Room-trans}
 
 -- ---- naming
 
@@ -200,6 +201,21 @@ Within-trans s a b c x y = record {
 
 pub Light-later : (s : ℕ) (a b : Core) → IsWithin s a b → IsLight a → IsLight b
 Light-later s a b x light t = let some = light t in let same = x.same_outside t in omega arith
+
+-- ---- what a call that resolves fields leaves
+
+pub Resolves-refl : (s : ℕ) (p : Parts) → Resolves s 0 p p
+Resolves-refl s p = record { within = Within-refl s (core_of p); naming = Naming-refl (core_of p); entry = refl; sparing = Sparing-refl p; cost = omega arith; room = Room-refl p.segment }
+
+pub Resolves-trans : (s m n : ℕ) (a b d : Parts) → Resolves s m a b → Resolves s n b d → Resolves s (m + n) a d
+Resolves-trans s m n a b d x y = record {
+  within = Within-trans s (core_of a) (core_of b) (core_of d) x.within y.within;
+  naming = Naming-trans (core_of a) (core_of b) (core_of d) x.naming y.naming;
+  entry = y.entry ∙ ap (λ (e : Entry). with_refs e ((core_of d).entries s).refs) x.entry;
+  sparing = Sparing-trans a b d x.sparing y.sparing;
+  cost = let first = x.cost in let then = y.cost in omega arith;
+  room = Room-trans a.segment b.segment d.segment x.room y.room;
+}
 
 -- ---- resolving
 

@@ -1,5 +1,5 @@
 -- Bodies of new objects, which have no record.
-use Rattle.std.specs.Prelude.{◌≡◌, ◌≢◌, ℕ, ◌+◌, ◌*◌, ◌/◌, ◌%◌, ◌==◌, if◌then◌else◌, true, List, ◌∷◌, ◌++◌, replicate, slice_set}
+use Rattle.std.specs.Prelude.{◌≡◌, ◌≢◌, ℕ, ◌+◌, ◌*◌, ◌/◌, ◌%◌, ◌==◌, if◌then◌else◌, true, List, [], Some, None, ◌∷◌, ◌++◌, replicate, slice_set}
 use Rattle.long_names.specs.Words.{literal_count}
 use Rattle.long_names.specs.declared.value.Value.{Value}
 use Rattle.long_names.specs.declared.object.Kind.{Kind}
@@ -8,12 +8,13 @@ use Rattle.long_names.specs.declared.object.Body.{Body}
 use Rattle.long_names.specs.declared.object.Body.TheVariants as body
 use Rattle.object_table.specs.declared.entry.Entry.{Entry}
 use Rattle.object_table.specs.declared.entry.EntryState.TheVariants.{Resident}
-use Rattle.object_table.specs.Entries.{with_refs}
+use Rattle.object_table.specs.Entries.{put, with_refs}
 use Rattle.core_segment.specs.Chunks.{with_chunk}
 use Rattle.core_view.specs.Core.{Core}
-use Rattle.core_view.specs.Words.{int_of_short, header_in}
+use Rattle.core_view.specs.Words.{int_of_short, header_in, meant}
+use Rattle.core_view.specs.Held.{Disk, held}
 use Rattle.core_view.specs.Counts.{outside, one, change_of}
-use Rattle.core_view.specs.Kept.{Stays}
+use Rattle.core_view.specs.Kept.{IsBacked, IsValued, Stays}
 use Rattle.core_view.specs.Steps.{IsRefStep}
 
 -- how many fields a new object of a kind has: of a method as many as its header word says
@@ -64,6 +65,15 @@ pub record IsMade (s k p : ℕ) (j : Kind) (len header filler : ℕ) (old new : 
   pub others : (t : ℕ) → t ≢ s → new.entries t ≡ with_refs (old.entries t) (new.entries t).refs
   pub vacant : (old.chunks p).owner ≡ 0
   pub chunks : new.chunks ≡ with_chunk old.chunks p (record { owner = s; words = words_new j len header filler })
+
+-- Over a disk: the heap then has, under the name of s, a new object of the class that k names, with fields that mean what the filler does.
+pub record Makes (s k : ℕ) (j : Kind) (len header filler : ℕ) (old new : Core) (disk : Disk) : Type 0 where
+  pub backed : disk (old.entries s).name ≡ None → IsBacked new disk
+  pub heap : held new disk ≡ put (held old disk) (old.entries s).name (Some (record {
+    class = (old.entries k).name;
+    body = body_new j len header (meant old.entries [] 0 filler);
+  }))
+  pub valued : IsValued (held old disk) → IsValued (held new disk)
 
 -- ---- bytes among words
 

@@ -14,13 +14,15 @@
 -- lambda; stores leave it fresh. translate_in and resolve make leaves of what they name, each with a reference. compact_one moves a body
 -- in any of these states.
 use Rattle.std.specs.Prelude.{◌≡◌, ℕ, ◌+◌, ◌≤◌, true, false, Option, Some, None, min}
-use Rattle.object_table.specs.Entries.{is_used}
+use Rattle.object_table.specs.Entries.{is_used, with_refs}
 use Rattle.object_table.specs.Table.{entry_at, bound_of, free_of}
 use Rattle.core_view.specs.Core.{Core}
 use Rattle.core_view.specs.Counts.{outside, one, change_of, marked_of}
 use Rattle.core_view.specs.Kept.{IsCore, IsTight, Stays}
 use Rattle.core_view.specs.Steps.{IsRefStep, IsAbout, KeepsEntries, KeepsOthers}
-use Rattle.core_segment.specs.Segment.{chunk_at}
+use Rattle.core_segment.specs.declared.segment.Segment.{Segment}
+use Rattle.core_segment.specs.declared.segment.TheConstants.{HEADER}
+use Rattle.core_segment.specs.Segment.{chunk_at, size_of, free_of as words_free, largest_of, SameRoom}
 use Rattle.resident_table.specs.Resident.{short_of, held_of, room_of}
 use Rattle.leaf_lambda.specs.declared.parts.Parts.{Parts}
 use Rattle.leaf_lambda.specs.declared.translate.TheConstants.{RESERVE}
@@ -106,6 +108,21 @@ pub record IsSparing (old new : Parts) : Type 0 where
   pub few : spare_of old ≤ RESERVE → (core_of new).find ≡ (core_of old).find
   pub less : spare_of new ≤ spare_of old
   pub least : min (spare_of old) RESERVE ≤ spare_of new
+
+-- what a call leaves that may resolve so many fields of s: all but its fields and references, and of what came each has a reference
+pub record Resolves (s n : ℕ) (old new : Parts) : Type 0 where
+  pub within : IsWithin s (core_of old) (core_of new)
+  pub naming : IsNaming (core_of old) (core_of new)
+  pub entry : (core_of new).entries s ≡ with_refs ((core_of old).entries s) ((core_of new).entries s).refs
+  pub sparing : IsSparing old new
+  pub cost : spare_of old ≤ spare_of new + n
+  pub room : SameRoom old.segment new.segment
+
+-- a chunk of so many words, with its header, was taken from a segment
+pub record TakesRoom (words : ℕ) (old new : Segment) : Type 0 where
+  pub size : size_of new ≡ size_of old
+  pub free : words_free new + words + HEADER ≡ words_free old
+  pub largest : largest_of old ≤ largest_of new + words + HEADER
 
 -- how many entries the name of an object costs
 abbrev pub leaves_for : Option ℕ → ℕ

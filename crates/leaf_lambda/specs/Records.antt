@@ -3,7 +3,7 @@ use Rattle.std.specs.Prelude.{◌≡◌, ℕ, ℤ, ◌+◌, ◌*◌, ◌%◌, �
 use Rattle.long_names.specs.Words.{literal_count}
 use Rattle.long_names.specs.declared.value.Value.{Value}
 use Rattle.long_names.specs.declared.value.Value.TheVariants.{Int, Ref}
-use Rattle.long_names.specs.Objects.{fields_of}
+use Rattle.long_names.specs.Objects.{body_words, fields_of}
 use Rattle.long_names.specs.declared.object.Kind.{Kind}
 use Rattle.long_names.specs.declared.object.Kind.TheVariants as kind
 use Rattle.object_record.specs.Raw.{RawRecord, RawBody, RawPointers, RawWords, RawBytes, RawMethod, raw_kind, raw_len, longs_of}
@@ -17,7 +17,9 @@ use Rattle.core_view.specs.Core.{Core}
 use Rattle.core_view.specs.Held.{Disk}
 use Rattle.core_view.specs.Kept.{IsBacked, Keeps}
 use Rattle.core_view.specs.Words.{pointers, body_in}
+use Rattle.leaf_lambda.specs.declared.parts.Parts.{Parts}
 use Rattle.leaf_lambda.specs.declared.translate.TheConstants.{RESERVE}
+use Rattle.leaf_lambda.specs.Parts.{core_of, IsNaming, IsWithin, TakesRoom}
 
 -- bytes two to a word, the high one first; of an odd number the last word has 0 as its low byte
 abbrev pub packed : List ℕ → List ℕ
@@ -80,6 +82,15 @@ pub record HasBody (c : Core) (s p : ℕ) (b : RawBody) : Type 0 where
   pub same_kind : (c.entries s).kind ≡ raw_kind b
   pub same_len : (c.entries s).len ≡ raw_len b
   pub same_fields : length (pointers (c.entries s).kind (c.chunks p).words) ≡ length (longs_of b)
+
+-- The leaf s became the object of a record, whose body lies at a place in a chunk of its own. Nothing else changed but references and the room
+-- that it took; of what came each has a reference.
+pub record Opens (s p : ℕ) (raw : RawRecord) (old new : Parts) : Type 0 where
+  pub within : IsWithin s (core_of old) (core_of new)
+  pub naming : IsNaming (core_of old) (core_of new)
+  pub body : HasBody (core_of new) s p raw.body
+  pub opened : IsOpened s p raw (core_of old) (core_of new)
+  pub room : TakesRoom (body_words (object_in raw).body) old.segment new.segment
 
 -- ---- a body with other fields, other words or other bytes
 

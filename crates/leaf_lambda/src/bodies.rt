@@ -8,8 +8,8 @@ ghost use Rattle.core_segment.specs.Chunks.{with_chunk};
 ghost use Rattle.core_view.specs.Core.{with_entry, with_chunk_at};
 ghost use Rattle.core_view.specs.Counts.{outside};
 ghost use Rattle.core_view.specs.Steps.{IsOpening, IsMove};
-ghost use Rattle.core_segment.specs.Segment.{chunk_at, size_of, free_of, largest_of, SameRoom};
-ghost use Rattle.leaf_lambda.specs.Parts.{core_of, spare_of, IsParts};
+ghost use Rattle.core_segment.specs.Segment.{chunk_at, largest_of, SameRoom};
+ghost use Rattle.leaf_lambda.specs.Parts.{core_of, spare_of, IsParts, TakesRoom};
 ghost use Rattle.leaf_lambda.specs.Records.{packed, unresolved, opened};
 
 use crate::parts::Parts;
@@ -116,9 +116,7 @@ fn take_filled(g: &mut Segment, words: u32, owner: u16, buf: &RecordBuf) -> Addr
     ensures vacant { (chunk_at g.old result.place).owner ≡ 0 }
     ensures chunk { chunk_at g.new
         ≡ with_chunk (chunk_at g.old) result.place (record { owner = owner; words = unresolved (raw_of buf.now).body }) }
-    ensures size { size_of g.new ≡ size_of g.old }
-    ensures free { free_of g.new + words + HEADER ≡ free_of g.old }
-    ensures largest { largest_of g.old ≤ largest_of g.new + words + HEADER }
+    ensures takes { TakesRoom words g.old g.new }
 {
     match g.take(words + HEADER, owner) {
         Some(at) => {
@@ -141,9 +139,7 @@ pub fn take_body(p: &mut Parts, s: Short, buf: &RecordBuf) -> Addr
     ensures chunk { (core_of p.new).chunks result.place ≡ record { owner = s.0; words = unresolved (raw_of buf.now).body } }
     ensures core { core_of p.new
         ≡ with_chunk_at (core_of p.old) result.place (record { owner = s.0; words = unresolved (raw_of buf.now).body }) }
-    ensures size { size_of p.new.segment ≡ size_of p.old.segment }
-    ensures free { free_of p.new.segment + length (unresolved (raw_of buf.now).body) + HEADER ≡ free_of p.old.segment }
-    ensures largest { largest_of p.old.segment ≤ largest_of p.new.segment + length (unresolved (raw_of buf.now).body) + HEADER }
+    ensures takes { TakesRoom (length (unresolved (raw_of buf.now).body)) p.old.segment p.new.segment }
 {
     let words = words_of(buf);
     take_filled(&mut p.segment, words, s.0, buf)

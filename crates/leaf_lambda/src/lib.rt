@@ -4,8 +4,9 @@
 //! Each call keeps `IsParts`, and leaves the held heap (`held` of core_view) as it was over every disk that has the record: the clause
 //! `keeps`. Only stores (`put_field`, `put_words`, `put_byte`) and `make_body` change what is held, of one object. Which fields may be
 //! lambdas says `MayBeLambda`. What stays beside the object's body says `IsWithin`: references from outside, all of other entries but
-//! their references, changes of counts, marks, and that each chunk with an owner is a body. Words and entries are accounted for: `size`,
-//! `free`, `largest`, `room` of the segment, `spare`, `cost` and `naming` of the table.
+//! their references, changes of counts, marks, and that each chunk with an owner is a body. What a call leaves that resolves fields is one
+//! record (`Resolves`), and so is an object that came in (`Opens`) or was made (`Makes`). Words and entries are accounted for: `TakesRoom`
+//! and `SameRoom` of the segment, `spare` and `cost` of the table.
 //!
 //!     translate_in(&mut parts, leaf, &mut record);
 //!     put_field(&mut parts, leaf, place_of_body(&parts, leaf), 3, word);

@@ -1,21 +1,20 @@
 // Bodies of new objects: a leaf whose object has no record gets fields that are all one word, and words that are 0.
-ghost use Rattle.std.specs.Prelude.{◌≡◌, ◌≢◌, ◌+◌, ◌*◌, ◌<◌, ◌≤◌, ◌^◌, ℕ, [], Some, None, true, IfSome, length, slice_get};
+ghost use Rattle.std.specs.Prelude.{◌≡◌, ◌≢◌, ◌+◌, ◌<◌, ◌≤◌, ◌^◌, ℕ, Some, None, true, IfSome, length, slice_get};
 ghost use Rattle.long_names.specs.Names.{NIL};
 ghost use Rattle.long_names.specs.Objects.{body_made, OfPointers};
 ghost use Rattle.long_names.specs.Words.{literal_count};
 ghost use Rattle.long_names.specs.declared.limits.TheConstants.{MOST_FIELDS};
-ghost use Rattle.long_names.specs.declared.object.Kind.TheVariants as sort;
 ghost use Rattle.object_table.specs.Entries.{put, is_short, is_used, place_of};
 ghost use Rattle.core_segment.specs.Chunks.{with_chunk};
-ghost use Rattle.core_segment.specs.Segment.{chunk_at, size_of, free_of, largest_of, SameRoom};
+ghost use Rattle.core_segment.specs.Segment.{chunk_at, largest_of, SameRoom};
 ghost use Rattle.core_view.specs.Core.{with_entry, with_chunk_at};
-ghost use Rattle.core_view.specs.Words.{meant, int_of_short, words_for, most_len};
+ghost use Rattle.core_view.specs.Words.{int_of_short, words_for, most_len};
 ghost use Rattle.core_view.specs.Held.{Disk as Store, held};
 ghost use Rattle.core_view.specs.Counts.{outside, one, IsLight};
-ghost use Rattle.core_view.specs.Kept.{IsBacked, IsValued, Stays};
-ghost use Rattle.core_view.specs.Steps.{IsOpening, IsMove, IsRefStep, with_refs_of};
-ghost use Rattle.leaf_lambda.specs.Parts.{core_of, spare_of, IsParts, IsWithin};
-ghost use Rattle.leaf_lambda.specs.Making.{fields_new, words_new, body_new, made, IsHoldingMany, IsMade};
+ghost use Rattle.core_view.specs.Kept.{IsBacked};
+ghost use Rattle.core_view.specs.Steps.{IsOpening, IsMove, with_refs_of};
+ghost use Rattle.leaf_lambda.specs.Parts.{core_of, spare_of, IsParts, IsWithin, TakesRoom};
+ghost use Rattle.leaf_lambda.specs.Making.{fields_new, words_new, made, IsHoldingMany, IsMade, Makes};
 
 use crate::fields::{is_name, words_mean_values};
 use crate::merge::literals_by;
@@ -139,9 +138,7 @@ fn take_filled_new(
     ensures vacant { (chunk_at g.old result.place).owner ≡ 0 }
     ensures chunk { chunk_at g.new
         ≡ with_chunk (chunk_at g.old) result.place (record { owner = owner; words = words_new kind len header filler }) }
-    ensures size { size_of g.new ≡ size_of g.old }
-    ensures free { free_of g.new + words + HEADER ≡ free_of g.old }
-    ensures largest { largest_of g.old ≤ largest_of g.new + words + HEADER }
+    ensures takes { TakesRoom words g.old g.new }
 {
     match g.take(words + HEADER, owner) {
         Some(at) => {
@@ -165,9 +162,7 @@ pub fn take_new(p: &mut Parts, s: Short, kind: Kind, len: u32, header: u16, fill
     ensures vacant { ((core_of p.old).chunks result.place).owner ≡ 0 }
     ensures core { core_of p.new
         ≡ with_chunk_at (core_of p.old) result.place (record { owner = s.0; words = words_new kind len header filler }) }
-    ensures size { size_of p.new.segment ≡ size_of p.old.segment }
-    ensures free { free_of p.new.segment + words_for kind len (literal_count (int_of_short header)) + HEADER ≡ free_of p.old.segment }
-    ensures largest { largest_of p.old.segment ≤ largest_of p.new.segment + words_for kind len (literal_count (int_of_short header)) + HEADER }
+    ensures takes { TakesRoom (words_for kind len (literal_count (int_of_short header))) p.old.segment p.new.segment }
 {
     let words = size_new(kind, len, header);
     take_filled_new(&mut p.segment, words, s.0, kind, len, header, filler)
@@ -216,18 +211,9 @@ pub fn make_body(
     ensures parts { IsParts p.new }
     ensures within { IsWithin s.0 (core_of p.old) (core_of p.new) }
     ensures body { (at : ℕ) × IsMade s.0 class.0 at kind len header filler (core_of p.old) (core_of p.new) }
-    ensures backed { (disk : Store) → IsBacked (core_of p.old) disk → disk ((core_of p.old).entries s.0).name ≡ None
-        → IsBacked (core_of p.new) disk }
-    ensures held { (disk : Store) → IsBacked (core_of p.old) disk →
-        held (core_of p.new) disk ≡ put (held (core_of p.old) disk) ((core_of p.old).entries s.0).name (Some (record {
-          class = ((core_of p.old).entries class.0).name;
-          body = body_new kind len header (meant (core_of p.old).entries [] 0 filler);
-        })) }
-    ensures valued { (disk : Store) → IsBacked (core_of p.old) disk → IsValued (held (core_of p.old) disk) → IsValued (held (core_of p.new) disk) }
+    ensures makes { (disk : Store) → IsBacked (core_of p.old) disk → Makes s.0 class.0 kind len header filler (core_of p.old) (core_of p.new) disk }
     ensures spare { spare_of p.new ≡ spare_of p.old }
-    ensures size { size_of p.new.segment ≡ size_of p.old.segment }
-    ensures free { free_of p.new.segment + words_for kind len (literal_count (int_of_short header)) + HEADER ≡ free_of p.old.segment }
-    ensures largest { largest_of p.old.segment ≤ largest_of p.new.segment + words_for kind len (literal_count (int_of_short header)) + HEADER }
+    ensures takes { TakesRoom (words_for kind len (literal_count (int_of_short header))) p.old.segment p.new.segment }
 {
     // What the filler means is a value, for `valued`.
     words_mean_values(p, filler);

@@ -3,21 +3,20 @@ ghost use Rattle.std.specs.Prelude.{◌≡◌, ◌≢◌, ◌+◌, ◌-◌, ◌<
 ghost use Rattle.long_names.specs.Objects.{body_words};
 ghost use Rattle.long_names.specs.Words.{IsValue, value_of as read_value};
 ghost use Rattle.long_names.specs.declared.value.Value.{Value as Meaning};
-ghost use Rattle.long_names.specs.declared.object.Kind.TheVariants as kind;
 ghost use Rattle.object_record.specs.Raw.{raw_kind, longs_of};
 ghost use Rattle.object_record.specs.Buffer.{raw_of, HasRecord};
 ghost use Rattle.object_record.specs.Objects.{value_in, object_in};
-ghost use Rattle.object_table.specs.Entries.{is_short, is_used, place_of, with_refs};
+ghost use Rattle.object_table.specs.Entries.{is_short, is_used, place_of};
 ghost use Rattle.core_view.specs.Words.{meant, pointers};
 ghost use Rattle.core_view.specs.Held.{Disk as Store, fields_there};
 ghost use Rattle.core_view.specs.Counts.{names, holders, IsLight};
 ghost use Rattle.core_view.specs.Kept.{IsBacked, Keeps};
 ghost use Rattle.core_view.specs.Steps.{IsAt};
 ghost use Rattle.core_segment.specs.declared.segment.TheConstants.{HEADER};
-ghost use Rattle.core_segment.specs.Segment.{size_of, free_of, largest_of, SameRoom};
-ghost use Rattle.leaf_lambda.specs.Parts.{core_of, spare_of, leaves_for, IsParts, IsHolding, IsNaming, IsWithin, IsSparing};
+ghost use Rattle.core_segment.specs.Segment.{largest_of};
+ghost use Rattle.leaf_lambda.specs.Parts.{core_of, spare_of, leaves_for, IsParts, IsHolding, IsSparing, Resolves};
 ghost use Rattle.leaf_lambda.specs.declared.translate.TheConstants.{RESERVE as LEAST};
-ghost use Rattle.leaf_lambda.specs.Records.{KeepsRecord, MayBeLambda, HasBody, IsOpened, word_or_lambda};
+ghost use Rattle.leaf_lambda.specs.Records.{KeepsRecord, MayBeLambda, Opens, word_or_lambda};
 
 use crate::bodies::{open_body, take_body};
 use crate::numbers::short_int;
@@ -119,15 +118,10 @@ fn resolve_field(p: &mut Parts, s: Short, at: Addr, i: u32, long: u32) -> u16
     ensures keeps { (disk : Store) → IsBacked (core_of p.old) disk
         → slice_get (fields_there (disk ((core_of p.old).entries s.0).name)) i ≡ Some (value_in long)
         → Keeps disk (core_of p.old) (core_of p.new) }
-    ensures within { IsWithin s.0 (core_of p.old) (core_of p.new) }
-    ensures naming { IsNaming (core_of p.old) (core_of p.new) }
-    ensures entry { (core_of p.new).entries s.0 ≡ with_refs ((core_of p.old).entries s.0) ((core_of p.new).entries s.0).refs }
+    ensures resolves { Resolves s.0 1 p.old p.new }
     ensures fields { let k = ((core_of p.old).entries s.0).kind in
         pointers k ((core_of p.new).chunks at.place).words ≡ slice_set (pointers k ((core_of p.old).chunks at.place).words) i result }
     ensures lambda { result ≡ 0 → MayBeLambda (core_of p.old).find (spare_of p.old) (read_value long) }
-    ensures sparing { IsSparing p.old p.new }
-    ensures cost { spare_of p.old ≤ spare_of p.new + 1 }
-    ensures room { SameRoom p.old.segment p.new.segment }
 {
     let w = short_for(p, long);
     if w != 0 {
@@ -148,16 +142,11 @@ fn resolve_fields(p: &mut Parts, s: Short, at: Addr, buf: &RecordBuf, count: u32
     ensures keeps { (disk : Store) → IsBacked (core_of p.old) disk
         → fields_there (disk ((core_of p.old).entries s.0).name) ≡ map value_in (longs_of (raw_of buf.now).body)
         → Keeps disk (core_of p.old) (core_of p.new) }
-    ensures within { IsWithin s.0 (core_of p.old) (core_of p.new) }
-    ensures naming { IsNaming (core_of p.old) (core_of p.new) }
-    ensures entry { (core_of p.new).entries s.0 ≡ with_refs ((core_of p.old).entries s.0) ((core_of p.new).entries s.0).refs }
+    ensures resolves { Resolves s.0 count p.old p.new }
     ensures lambda { let k = ((core_of p.old).entries s.0).kind in (i : ℕ)
         → slice_get (pointers k ((core_of p.new).chunks at.place).words) i ≡ Some 0
         → MayBeLambda (core_of p.new).find (spare_of p.new) (read_value (get_or (longs_of (raw_of buf.now).body) i 0)) }
     ensures long { length (pointers ((core_of p.old).entries s.0).kind ((core_of p.new).chunks at.place).words) ≡ count }
-    ensures sparing { IsSparing p.old p.new }
-    ensures cost { spare_of p.old ≤ spare_of p.new + count }
-    ensures room { SameRoom p.old.segment p.new.segment }
 {
     for i in 0..count {
         let word = buf.long_field(i);
@@ -198,17 +187,11 @@ fn open_leaf(p: &mut Parts, s: Short, buf: &RecordBuf) -> Addr
     requires room { body_words (object_in (raw_of buf.now)).body + HEADER ≤ largest_of p.old.segment }
     ensures parts { IsParts p.new }
     ensures keeps { KeepsRecord (core_of p.old) (core_of p.new) s.0 buf.now }
-    ensures within { IsWithin s.0 (core_of p.old) (core_of p.new) }
-    ensures naming { IsNaming (core_of p.old) (core_of p.new) }
-    ensures body { HasBody (core_of p.new) s.0 result.place (raw_of buf.now).body }
-    ensures opened { IsOpened s.0 result.place (raw_of buf.now) (core_of p.old) (core_of p.new) }
+    ensures opens { Opens s.0 result.place (raw_of buf.now) p.old p.new }
     ensures fields { pointers (raw_kind (raw_of buf.now).body) ((core_of p.new).chunks result.place).words
         ≡ replicate (length (longs_of (raw_of buf.now).body)) 0 }
     ensures cost { spare_of p.new ≤ spare_of p.old
         × (spare_of p.old ≤ spare_of p.new + leaves_for ((core_of p.old).find (raw_of buf.now).class)) }
-    ensures size { size_of p.new.segment ≡ size_of p.old.segment }
-    ensures free { free_of p.new.segment + body_words (object_in (raw_of buf.now)).body + HEADER ≡ free_of p.old.segment }
-    ensures largest { largest_of p.old.segment ≤ largest_of p.new.segment + body_words (object_in (raw_of buf.now)).body + HEADER }
 {
     let class = hold_class(p, buf);
     let at = take_body(p, s, buf);
@@ -228,10 +211,7 @@ pub fn translate_in(p: &mut Parts, s: Short, buf: &mut RecordBuf)
     requires room { body_words (object_in (raw_of buf.old)).body + HEADER ≤ largest_of p.old.segment }
     ensures parts { IsParts p.new }
     ensures keeps { KeepsRecord (core_of p.old) (core_of p.new) s.0 buf.old }
-    ensures within { IsWithin s.0 (core_of p.old) (core_of p.new) }
-    ensures naming { IsNaming (core_of p.old) (core_of p.new) }
-    ensures body { (at : ℕ) × HasBody (core_of p.new) s.0 at (raw_of buf.old).body }
-    ensures opened { (at : ℕ) × IsOpened s.0 at (raw_of buf.old) (core_of p.old) (core_of p.new) }
+    ensures opens { (at : ℕ) × Opens s.0 at (raw_of buf.old) p.old p.new }
     ensures lambda { (at i : ℕ) → IsAt (core_of p.new) s.0 at i 0
         → MayBeLambda (core_of p.new).find (spare_of p.new) (read_value (get_or (longs_of (raw_of buf.old).body) i 0)) }
     ensures refs { (t : ℕ)
@@ -239,9 +219,6 @@ pub fn translate_in(p: &mut Parts, s: Short, buf: &mut RecordBuf)
     ensures spare { min (spare_of p.old - leaves_for ((core_of p.old).find (raw_of buf.old).class)) LEAST ≤ spare_of p.new }
     ensures cost { spare_of p.old
         ≤ spare_of p.new + leaves_for ((core_of p.old).find (raw_of buf.old).class) + length (longs_of (raw_of buf.old).body) }
-    ensures size { size_of p.new.segment ≡ size_of p.old.segment }
-    ensures free { free_of p.new.segment + body_words (object_in (raw_of buf.old)).body + HEADER ≡ free_of p.old.segment }
-    ensures largest { largest_of p.old.segment ≤ largest_of p.new.segment + body_words (object_in (raw_of buf.old)).body + HEADER }
     ensures same { buf.new ≡ buf.old }
 {
     let at = open_leaf(p, s, buf);
@@ -260,17 +237,11 @@ pub fn resolve(p: &mut Parts, s: Short, buf: &mut RecordBuf, i: u32) -> u32
     ensures parts { IsParts p.new }
     ensures long { result ≡ slice_index (longs_of (raw_of buf.old).body) i }
     ensures keeps { KeepsRecord (core_of p.old) (core_of p.new) s.0 buf.old }
-    ensures within { IsWithin s.0 (core_of p.old) (core_of p.new) }
-    ensures naming { IsNaming (core_of p.old) (core_of p.new) }
-    ensures entry { (core_of p.new).entries s.0 ≡ with_refs ((core_of p.old).entries s.0) ((core_of p.new).entries s.0).refs }
+    ensures resolves { Resolves s.0 1 p.old p.new }
     ensures fields { (at : ℕ) → place_of ((core_of p.old).entries s.0).state ≡ Some at → (w : ℕ)
         × (let k = ((core_of p.old).entries s.0).kind in
         pointers k ((core_of p.new).chunks at).words ≡ slice_set (pointers k ((core_of p.old).chunks at).words) i w) }
     ensures lambda { (at : ℕ) → IsAt (core_of p.new) s.0 at i 0 → MayBeLambda (core_of p.old).find (spare_of p.old) (read_value result) }
-    ensures sparing { IsSparing p.old p.new }
-    ensures cost { spare_of p.old ≤ spare_of p.new + 1 }
-    ensures size { size_of p.new.segment ≡ size_of p.old.segment }
-    ensures room { SameRoom p.old.segment p.new.segment }
     ensures same { buf.new ≡ buf.old }
 {
     let long = buf.long_field(i);

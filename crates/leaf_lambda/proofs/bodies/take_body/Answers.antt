@@ -37,5 +37,8 @@ returns-clause-chunk c = ap (λ (d : Core). d.chunks c.take_filled.result.place)
 pub returns-clause-core : goal.returns-clause-core
 returns-clause-core c = taken c
 
-pub returns-clause-largest : goal.returns-clause-largest
-returns-clause-largest c = let took = c.take_filled.ensures.largest in let words = c.words_of-words.ensures.words in omega arith
+pub returns-clause-takes : goal.returns-clause-takes
+returns-clause-takes c =
+    let t = c.take_filled.ensures.takes in
+    let words = c.words_of-words.ensures.words in
+    record { size = t.size; free = let took = t.free in omega arith; largest = let took = t.largest in omega arith }

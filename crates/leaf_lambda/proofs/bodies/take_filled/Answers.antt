@@ -24,5 +24,12 @@ returns-clause-chunk c =
     ∙ ap (λ (f : ℕ → Chunk). with_chunk f c.in-Some.at.place (record { owner = c.args.owner; words = unresolved (raw_of c.args.buf.now).body })) c.in-Some.ensures.taken.chunks
     ∙ put-twice (chunk_at c.args.g.now) c.in-Some.at.place (record { owner = c.args.owner; words = c.in-Some.ensures.taken.text }) (record { owner = c.args.owner; words = unresolved (raw_of c.args.buf.now).body })
 
-pub returns-clause-largest : goal.returns-clause-largest
-returns-clause-largest c = let took = c.in-Some.ensures.largest in let same = c.fill.ensures.room.largest in omega arith
+pub returns-clause-takes : goal.returns-clause-takes
+returns-clause-takes c =
+    let t = c.in-Some.ensures in
+    let same = c.fill.ensures.room in
+    record {
+      size = same.size ∙ t.size;
+      free = let a = t.free in let b = same.free in omega arith;
+      largest = let a = t.largest in let b = same.largest in omega arith;
+    }

@@ -1,7 +1,8 @@
-use Rattle.std.proofs.Common.{ℕ, ◌≡◌, ap, arith, subst}
-use Rattle.core_segment.specs.Segment.{largest_of}
+use Rattle.std.proofs.Common.{ℕ, ◌≡◌, ◌∙◌, Some, ap, arith, subst}
+use Rattle.core_segment.specs.Segment.{size_of, free_of, largest_of}
+use Rattle.object_table.specs.Entries.{put}
 use Rattle.leaf_lambda.specs.Parts.{core_of}
-use Rattle.leaf_lambda.specs.Making.{IsHoldingMany, IsMade}
+use Rattle.leaf_lambda.specs.Making.{IsHoldingMany, IsMade, body_new}
 use Rattle.std.specs.Prelude.{[]}
 use Rattle.core_view.specs.Words.{meant}
 use Rattle.core_view.specs.Held.{held}
@@ -55,20 +56,26 @@ is-made c = make-made (core_of c.args.p.now) (core_of c.grip.new.p) (core_of c.h
 pub returns-clause-body : goal.returns-clause-body
 returns-clause-body c = (c.take_new-at.result.place, is-made c)
 
-pub returns-clause-backed : goal.returns-clause-backed
-returns-clause-backed c = λ disk backed none. make-backed (core_of c.args.p.now) (core_of c.grip.new.p) (core_of c.hold_many.new.p) (core_of c.take_new-at.new.p) (core_of c.open_new.new.p) c.args.s.0 c.args.class.0 c.take_new-at.result.place c.args.filler c.args.kind c.args.len c.args.header disk (run c) c.open_new.ensures.core backed none
+pub returns-clause-makes : goal.returns-clause-makes
+returns-clause-makes c = λ disk backed.
+    let made : held (core_of c.open_new.new.p) disk ≡ put (held (core_of c.args.p.now) disk) ((core_of c.args.p.now).entries c.args.s.0).name
+    (Some (record { class = ((core_of c.args.p.now).entries c.args.class.0).name; body = body_new c.args.kind c.args.len c.args.header (meant (core_of c.args.p.now).entries [] 0 c.args.filler) })) =
+    make-held (core_of c.args.p.now) (core_of c.grip.new.p) (core_of c.hold_many.new.p) (core_of c.take_new-at.new.p) (core_of c.open_new.new.p) c.args.s.0 c.args.class.0 c.take_new-at.result.place c.args.filler c.args.kind c.args.len c.args.header disk (run c) c.open_new.ensures.core backed in
+    record {
+      backed = λ none. make-backed (core_of c.args.p.now) (core_of c.grip.new.p) (core_of c.hold_many.new.p) (core_of c.take_new-at.new.p) (core_of c.open_new.new.p) c.args.s.0 c.args.class.0 c.take_new-at.result.place c.args.filler c.args.kind c.args.len c.args.header disk (run c) c.open_new.ensures.core backed none;
+      heap = made;
+      valued = new-valued (held (core_of c.args.p.now) disk) (held (core_of c.open_new.new.p) disk) ((core_of c.args.p.now).entries c.args.s.0).name ((core_of c.args.p.now).entries c.args.class.0).name c.args.kind c.args.len c.args.header (meant (core_of c.args.p.now).entries [] 0 c.args.filler)
+          made c.words_mean_values.ensures;
+    }
 
-pub returns-clause-held : goal.returns-clause-held
-returns-clause-held c = λ disk backed. make-held (core_of c.args.p.now) (core_of c.grip.new.p) (core_of c.hold_many.new.p) (core_of c.take_new-at.new.p) (core_of c.open_new.new.p) c.args.s.0 c.args.class.0 c.take_new-at.result.place c.args.filler c.args.kind c.args.len c.args.header disk (run c) c.open_new.ensures.core backed
-
-pub returns-clause-valued : goal.returns-clause-valued
-returns-clause-valued c = λ disk backed. new-valued (held (core_of c.args.p.now) disk) (held (core_of c.open_new.new.p) disk) ((core_of c.args.p.now).entries c.args.s.0).name ((core_of c.args.p.now).entries c.args.class.0).name c.args.kind c.args.len c.args.header (meant (core_of c.args.p.now).entries [] 0 c.args.filler)
-    (returns-clause-held c disk backed) c.words_mean_values.ensures
-
-pub returns-clause-largest : goal.returns-clause-largest
-returns-clause-largest c =
-    let held : largest_of c.grip.new.p.segment ≡ largest_of c.args.p.now.segment = ap largest_of c.grip.ensures.segment in
-    let first : largest_of c.hold_many.new.p.segment ≡ largest_of c.grip.new.p.segment = ap largest_of c.hold_many.ensures.segment in
-    let took = c.take_new-at.ensures.largest in
-    let last : largest_of c.open_new.new.p.segment ≡ largest_of c.take_new-at.new.p.segment = ap largest_of c.open_new.ensures.segment in
-    omega arith
+pub returns-clause-takes : goal.returns-clause-takes
+returns-clause-takes c =
+    let t = c.take_new-at.ensures.takes in
+    let held = c.grip.ensures.segment in
+    let first = c.hold_many.ensures.segment in
+    let last = c.open_new.ensures.segment in
+    record {
+      size = ap size_of last ∙ t.size ∙ ap size_of first ∙ ap size_of held;
+      free = let a = ap free_of held in let b = ap free_of first in let d = ap free_of last in let took = t.free in omega arith;
+      largest = let a = ap largest_of held in let b = ap largest_of first in let d = ap largest_of last in let took = t.largest in omega arith;
+    }

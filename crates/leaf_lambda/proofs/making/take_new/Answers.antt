@@ -36,5 +36,8 @@ pub returns-clause-vacant : goal.returns-clause-vacant
 unfolding core_of
 returns-clause-vacant c = c.take_filled_new.ensures.vacant
 
-pub returns-clause-largest : goal.returns-clause-largest
-returns-clause-largest c = let took = c.take_filled_new.ensures.largest in let words = c.size_new-words.ensures in omega arith
+pub returns-clause-takes : goal.returns-clause-takes
+returns-clause-takes c =
+    let t = c.take_filled_new.ensures.takes in
+    let words = c.size_new-words.ensures in
+    record { size = t.size; free = let took = t.free in omega arith; largest = let took = t.largest in omega arith }

@@ -1,5 +1,7 @@
 use Rattle.std.proofs.Common.{◌≡◌, ℕ, refl, sym, ◌∙◌, ap, subst, arith}
 use Rattle.object_record.specs.Buffer.{raw_of}
+use Rattle.long_names.specs.Objects.{body_words}
+use Rattle.object_record.specs.Objects.{object_in}
 use Rattle.object_record.specs.Raw.{raw_kind, raw_len}
 use Rattle.object_table.specs.declared.entry.Entry.{Entry}
 use Rattle.object_table.specs.Entries.{is_used}
@@ -9,8 +11,8 @@ use Rattle.long_names.specs.declared.object.Kind.{Kind}
 use Rattle.core_view.specs.Core.{Core, with_entry}
 use Rattle.core_view.specs.Steps.{IsOpening}
 use Rattle.resident_table.specs.declared.Parts2.{Parts2}
-use Rattle.core_segment.specs.Segment.{size_of, free_of, largest_of}
-use Rattle.leaf_lambda.specs.Parts.{core_of, spare_of}
+use Rattle.core_segment.specs.Segment.{size_of, free_of as words_free, largest_of}
+use Rattle.leaf_lambda.specs.Parts.{core_of, spare_of, TakesRoom}
 use Rattle.leaf_lambda.specs.Records.{opened}
 use Rattle.leaf_lambda.proofs.RecordLaws.{unresolved-words}
 use Rattle.leaf_lambda.proofs.TranslateLaws.{naming-entries, naming-entry}
@@ -76,12 +78,6 @@ is c = c.open_body.ensures.core ∙ ap (λ (e : Entry). with_entry (core_of c.ta
 pub returns-clause-keeps : goal.returns-clause-keeps
 returns-clause-keeps c = λ disk backed there. run-keeps (core_of c.args.p.now) (core_of c.hold_class-class.new.p) (core_of c.take_body-at.new.p) (core_of c.open_body.new.p) c.args.s.0 c.hold_class-class.result.0 c.take_body-at.result.place (raw_of c.args.buf.now) disk (run c) (is c) backed there
 
-pub returns-clause-within : goal.returns-clause-within
-returns-clause-within c = run-within (core_of c.args.p.now) (core_of c.hold_class-class.new.p) (core_of c.take_body-at.new.p) (core_of c.open_body.new.p) c.args.s.0 c.hold_class-class.result.0 c.take_body-at.result.place (raw_of c.args.buf.now) (run c) (is c)
-
-pub returns-clause-body : goal.returns-clause-body
-returns-clause-body c = run-body (core_of c.args.p.now) (core_of c.hold_class-class.new.p) (core_of c.take_body-at.new.p) (core_of c.open_body.new.p) c.args.s.0 c.hold_class-class.result.0 c.take_body-at.result.place (raw_of c.args.buf.now) (run c) (is c)
-
 pub returns-clause-fields : goal.returns-clause-fields
 returns-clause-fields c = run-fields (core_of c.args.p.now) (core_of c.hold_class-class.new.p) (core_of c.take_body-at.new.p) (core_of c.open_body.new.p) c.args.s.0 c.hold_class-class.result.0 c.take_body-at.result.place (raw_of c.args.buf.now) (run c) (is c)
 
@@ -92,31 +88,27 @@ returns-clause-cost c =
     let then = c.open_body.ensures.spare in
     (let a = cost.0 in omega arith, let a = cost.1 in omega arith)
 
-pub returns-clause-naming : goal.returns-clause-naming
-returns-clause-naming c =
+took : (c : goal.After-open_body) → TakesRoom (body_words (object_in (raw_of c.args.buf.now)).body) c.args.p.now.segment c.open_body.new.p.segment
+took c =
+    let words = unresolved-words (raw_of c.args.buf.now).body in
+    let t = c.take_body-at.ensures.takes in
+    let first = c.hold_class-class.ensures.segment in
+    let last = c.open_body.ensures.segment in
+    record {
+      size = ap size_of last ∙ t.size ∙ ap size_of first;
+      free = let a = ap words_free first in let b = ap words_free last in let took = t.free in omega arith;
+      largest = let a = ap largest_of first in let b = ap largest_of last in let took = t.largest in omega arith;
+    }
+
+pub returns-clause-opens : goal.returns-clause-opens
+returns-clause-opens c =
     let r = run c in
-    naming-entry (core_of c.args.p.now) (core_of c.take_body-at.new.p) (core_of c.open_body.new.p) c.args.s.0 (after (core_of c.take_body-at.new.p) c.args.s.0 c.hold_class-class.result.0 c.take_body-at.result.place (raw_of c.args.buf.now))
-    (naming-entries (core_of c.args.p.now) (core_of c.hold_class-class.new.p) (core_of c.take_body-at.new.p) r.hold.naming r.entries)
-    (ap (λ (f : ℕ → Entry). is_used (f c.args.s.0).state) r.entries ∙ (r.hold.live c.args.s.0 r.used).0) (is c) refl refl
-
-pub returns-clause-opened : goal.returns-clause-opened
-returns-clause-opened c = run-opened (core_of c.args.p.now) (core_of c.hold_class-class.new.p) (core_of c.take_body-at.new.p) (core_of c.open_body.new.p) c.args.s.0 c.hold_class-class.result.0 c.take_body-at.result.place (raw_of c.args.buf.now) (run c) (is c)
-
-pub returns-clause-size : goal.returns-clause-size
-returns-clause-size c = ap size_of c.open_body.ensures.segment ∙ c.take_body-at.ensures.size ∙ ap size_of c.hold_class-class.ensures.segment
-
-pub returns-clause-free : goal.returns-clause-free
-returns-clause-free c =
-    let words = unresolved-words (raw_of c.args.buf.now).body in
-    let first : free_of c.hold_class-class.new.p.segment ≡ free_of c.args.p.now.segment = ap free_of c.hold_class-class.ensures.segment in
-    let took = c.take_body-at.ensures.free in
-    let last : free_of c.open_body.new.p.segment ≡ free_of c.take_body-at.new.p.segment = ap free_of c.open_body.ensures.segment in
-    omega arith
-
-pub returns-clause-largest : goal.returns-clause-largest
-returns-clause-largest c =
-    let words = unresolved-words (raw_of c.args.buf.now).body in
-    let first : largest_of c.hold_class-class.new.p.segment ≡ largest_of c.args.p.now.segment = ap largest_of c.hold_class-class.ensures.segment in
-    let took = c.take_body-at.ensures.largest in
-    let last : largest_of c.open_body.new.p.segment ≡ largest_of c.take_body-at.new.p.segment = ap largest_of c.open_body.ensures.segment in
-    omega arith
+    record {
+      within = run-within (core_of c.args.p.now) (core_of c.hold_class-class.new.p) (core_of c.take_body-at.new.p) (core_of c.open_body.new.p) c.args.s.0 c.hold_class-class.result.0 c.take_body-at.result.place (raw_of c.args.buf.now) r (is c);
+      naming = naming-entry (core_of c.args.p.now) (core_of c.take_body-at.new.p) (core_of c.open_body.new.p) c.args.s.0 (after (core_of c.take_body-at.new.p) c.args.s.0 c.hold_class-class.result.0 c.take_body-at.result.place (raw_of c.args.buf.now))
+          (naming-entries (core_of c.args.p.now) (core_of c.hold_class-class.new.p) (core_of c.take_body-at.new.p) r.hold.naming r.entries)
+          (ap (λ (f : ℕ → Entry). is_used (f c.args.s.0).state) r.entries ∙ (r.hold.live c.args.s.0 r.used).0) (is c) refl refl;
+      body = run-body (core_of c.args.p.now) (core_of c.hold_class-class.new.p) (core_of c.take_body-at.new.p) (core_of c.open_body.new.p) c.args.s.0 c.hold_class-class.result.0 c.take_body-at.result.place (raw_of c.args.buf.now) r (is c);
+      opened = run-opened (core_of c.args.p.now) (core_of c.hold_class-class.new.p) (core_of c.take_body-at.new.p) (core_of c.open_body.new.p) c.args.s.0 c.hold_class-class.result.0 c.take_body-at.result.place (raw_of c.args.buf.now) r (is c);
+      room = took c;
+    }

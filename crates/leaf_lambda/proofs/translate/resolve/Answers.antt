@@ -35,12 +35,12 @@ returns-clause-lambda c = λ at is.
     let k = ((core_of c.args.p.now).entries c.args.s.0).kind in
     let was = pointers k ((core_of c.args.p.now).chunks c.place_of_body-at.result.place).words in
     let here : c.requires.lambda.0 ≡ c.place_of_body-at.result.place = some-same c.requires.lambda.0 c.place_of_body-at.result.place (sym c.requires.lambda.1.place ∙ c.place_of_body-at.ensures) in
-    let same : at ≡ c.place_of_body-at.result.place = some-same at c.place_of_body-at.result.place (sym is.place ∙ ap (λ (e : Entry). place_of e.state) c.resolve_field.ensures.entry ∙ c.place_of_body-at.ensures) in
+    let same : at ≡ c.place_of_body-at.result.place = some-same at c.place_of_body-at.result.place (sym is.place ∙ ap (λ (e : Entry). place_of e.state) c.resolve_field.ensures.resolves.entry ∙ c.place_of_body-at.ensures) in
     let there : slice_get was c.args.i ≡ Some 0 = ap (λ (z : ℕ). slice_get (pointers k ((core_of c.args.p.now).chunks z).words) c.args.i) (sym here) ∙ c.requires.lambda.1.word in
     let low = slice_get_within was c.args.i 0 there in
     let word : slice_get (slice_set was c.args.i c.resolve_field.result) c.args.i ≡ Some 0 =
     ap (λ (ws : List ℕ). slice_get ws c.args.i) (sym c.resolve_field.ensures.fields)
-    ∙ ap (λ (e : Entry). slice_get (pointers e.kind ((core_of c.resolve_field.new.p).chunks c.place_of_body-at.result.place).words) c.args.i) (sym c.resolve_field.ensures.entry)
+    ∙ ap (λ (e : Entry). slice_get (pointers e.kind ((core_of c.resolve_field.new.p).chunks c.place_of_body-at.result.place).words) c.args.i) (sym c.resolve_field.ensures.resolves.entry)
     ∙ ap (λ (z : ℕ). slice_get (pointers ((core_of c.resolve_field.new.p).entries c.args.s.0).kind ((core_of c.resolve_field.new.p).chunks z).words) c.args.i) (sym same) ∙ is.word in
     c.resolve_field.ensures.lambda (some-same c.resolve_field.result 0 (sym (get-set was c.args.i c.resolve_field.result low) ∙ word))
 

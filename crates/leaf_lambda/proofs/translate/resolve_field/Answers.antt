@@ -25,14 +25,19 @@ returns-then-w-ne0-clause-keeps c = λ disk backed there.
     resolve-keeps (core_of c.args.p.now) (core_of c.short_for-w.new.p) (core_of c.store_word.new.p) disk c.args.s.0 c.args.at.place c.args.i c.short_for-w.result (value_in c.args.long)
     c.short_for-w.ensures.parts.core c.short_for-w.ensures.held c.requires.there c.if-w-ne0.true (c.short_for-w.ensures.means c.if-w-ne0.true) c.store_word.ensures.core backed there
 
-pub returns-then-w-ne0-clause-within : goal.returns-then-w-ne0-clause-within
-returns-then-w-ne0-clause-within c =
-    resolve-within (core_of c.args.p.now) (core_of c.short_for-w.new.p) (core_of c.store_word.new.p) c.args.s.0 c.args.at.place c.args.i c.short_for-w.result
-    c.short_for-w.ensures.parts.core c.short_for-w.ensures.held c.requires.there
-    (λ is. let out = c.short_for-w.ensures.held.one_more c.short_for-w.result in let here = one-here c.short_for-w.result is in omega arith) c.store_word.ensures.core
-
-pub returns-then-w-ne0-clause-entry : goal.returns-then-w-ne0-clause-entry
-returns-then-w-ne0-clause-entry c = subst (λ (d : Core). d.entries c.args.s.0 ≡ with_refs ((core_of c.args.p.now).entries c.args.s.0) (d.entries c.args.s.0).refs) (sym c.store_word.ensures.core) (c.short_for-w.ensures.held.step.bodies c.args.s.0 c.args.at.place c.requires.there.place)
+pub returns-then-w-ne0-clause-resolves : goal.returns-then-w-ne0-clause-resolves
+returns-then-w-ne0-clause-resolves c =
+    let names : spare_of c.store_word.new.p ≡ spare_of c.short_for-w.new.p = ap (λ (n : Parts2). free_of n.table) c.store_word.ensures.same_names in
+    record {
+      within = resolve-within (core_of c.args.p.now) (core_of c.short_for-w.new.p) (core_of c.store_word.new.p) c.args.s.0 c.args.at.place c.args.i c.short_for-w.result
+          c.short_for-w.ensures.parts.core c.short_for-w.ensures.held c.requires.there
+          (λ is. let out = c.short_for-w.ensures.held.one_more c.short_for-w.result in let here = one-here c.short_for-w.result is in omega arith) c.store_word.ensures.core;
+      naming = naming-entries (core_of c.args.p.now) (core_of c.short_for-w.new.p) (core_of c.store_word.new.p) c.short_for-w.ensures.held.naming (ap (λ (d : Core). d.entries) c.store_word.ensures.core);
+      entry = subst (λ (d : Core). d.entries c.args.s.0 ≡ with_refs ((core_of c.args.p.now).entries c.args.s.0) (d.entries c.args.s.0).refs) (sym c.store_word.ensures.core) (c.short_for-w.ensures.held.step.bodies c.args.s.0 c.args.at.place c.requires.there.place);
+      sparing = Sparing-same c.args.p.now c.short_for-w.new.p c.store_word.new.p c.short_for-w.ensures.sparing (ap (λ (d : Core). d.find) c.store_word.ensures.core) names;
+      cost = let cost = c.short_for-w.ensures.cost in omega arith;
+      room = subst (λ (g : Segment). SameRoom g c.store_word.new.p.segment) c.short_for-w.ensures.segment c.store_word.ensures.room;
+    }
 
 pub returns-then-w-ne0-clause-fields : goal.returns-then-w-ne0-clause-fields
 returns-then-w-ne0-clause-fields c = resolve-fields (core_of c.args.p.now) (core_of c.short_for-w.new.p) (core_of c.store_word.new.p) c.args.s.0 c.args.at.place c.args.i c.short_for-w.result c.short_for-w.ensures.held.step c.requires.there c.store_word.ensures.core
@@ -40,37 +45,23 @@ returns-then-w-ne0-clause-fields c = resolve-fields (core_of c.args.p.now) (core
 pub returns-then-w-ne0-clause-lambda : goal.returns-then-w-ne0-clause-lambda
 returns-then-w-ne0-clause-lambda c = λ zero_. absurd (c.if-w-ne0.true zero_)
 
-pub returns-then-w-ne0-clause-sparing : goal.returns-then-w-ne0-clause-sparing
-returns-then-w-ne0-clause-sparing c = Sparing-same c.args.p.now c.short_for-w.new.p c.store_word.new.p c.short_for-w.ensures.sparing (ap (λ (d : Core). d.find) c.store_word.ensures.core) (ap (λ (n : Parts2). free_of n.table) c.store_word.ensures.same_names)
-
 nothing : (c : goal.Else-w-ne0) → IsHolding 0 (core_of c.args.p.now) (core_of c.short_for-w.new.p)
 nothing c = subst (λ (w : ℕ). IsHolding w (core_of c.args.p.now) (core_of c.short_for-w.new.p)) c.if-w-ne0.false c.short_for-w.ensures.held
 
 pub returns-else-w-ne0-clause-keeps : goal.returns-else-w-ne0-clause-keeps
 returns-else-w-ne0-clause-keeps c = λ disk backed there. c.short_for-w.ensures.held.stays disk backed
 
-pub returns-else-w-ne0-clause-within : goal.returns-else-w-ne0-clause-within
-returns-else-w-ne0-clause-within c = unresolved-within (core_of c.args.p.now) (core_of c.short_for-w.new.p) c.args.s.0 (nothing c)
-
-pub returns-else-w-ne0-clause-entry : goal.returns-else-w-ne0-clause-entry
-returns-else-w-ne0-clause-entry c = c.short_for-w.ensures.held.step.bodies c.args.s.0 c.args.at.place c.requires.there.place
+pub returns-else-w-ne0-clause-resolves : goal.returns-else-w-ne0-clause-resolves
+returns-else-w-ne0-clause-resolves c = record {
+  within = unresolved-within (core_of c.args.p.now) (core_of c.short_for-w.new.p) c.args.s.0 (nothing c);
+  naming = c.short_for-w.ensures.held.naming;
+  entry = c.short_for-w.ensures.held.step.bodies c.args.s.0 c.args.at.place c.requires.there.place;
+  sparing = c.short_for-w.ensures.sparing;
+  cost = c.short_for-w.ensures.cost;
+  room = subst (λ (g : Segment). SameRoom g c.short_for-w.new.p.segment) c.short_for-w.ensures.segment (Room-refl c.short_for-w.new.p.segment);
+}
 
 pub returns-else-w-ne0-clause-fields : goal.returns-else-w-ne0-clause-fields
 returns-else-w-ne0-clause-fields c =
     unresolved-fields (core_of c.args.p.now) (core_of c.short_for-w.new.p) c.args.s.0 c.args.at.place c.args.i c.short_for-w.ensures.held.step c.requires.there
     ∙ ap (λ (w : ℕ). slice_set (pointers ((core_of c.args.p.now).entries c.args.s.0).kind ((core_of c.args.p.now).chunks c.args.at.place).words) c.args.i w) (sym c.if-w-ne0.false)
-
-pub returns-then-w-ne0-clause-naming : goal.returns-then-w-ne0-clause-naming
-returns-then-w-ne0-clause-naming c = naming-entries (core_of c.args.p.now) (core_of c.short_for-w.new.p) (core_of c.store_word.new.p) c.short_for-w.ensures.held.naming (ap (λ (d : Core). d.entries) c.store_word.ensures.core)
-
-pub returns-else-w-ne0-clause-naming : goal.returns-else-w-ne0-clause-naming
-returns-else-w-ne0-clause-naming c = c.short_for-w.ensures.held.naming
-
-pub returns-then-w-ne0-clause-room : goal.returns-then-w-ne0-clause-room
-returns-then-w-ne0-clause-room c = subst (λ (g : Segment). SameRoom g c.store_word.new.p.segment) c.short_for-w.ensures.segment c.store_word.ensures.room
-
-pub returns-else-w-ne0-clause-room : goal.returns-else-w-ne0-clause-room
-returns-else-w-ne0-clause-room c = subst (λ (g : Segment). SameRoom g c.short_for-w.new.p.segment) c.short_for-w.ensures.segment (Room-refl c.short_for-w.new.p.segment)
-
-pub returns-then-w-ne0-clause-cost : goal.returns-then-w-ne0-clause-cost
-returns-then-w-ne0-clause-cost c = let cost = c.short_for-w.ensures.cost in let same : spare_of c.store_word.new.p ≡ spare_of c.short_for-w.new.p = ap (λ (n : Parts2). free_of n.table) c.store_word.ensures.same_names in omega arith

@@ -1,4 +1,4 @@
-use Rattle.std.proofs.Common.{ℕ, List, ◌≡◌, ◌≢◌, Option, Some, length, get_or, refl, sym, ◌∙◌, ap, subst, arith, ⊎_elim}
+use Rattle.std.proofs.Common.{ℕ, List, ◌≡◌, ◌≢◌, Option, Some, length, get_or, sym, ◌∙◌, ap, subst, arith, ⊎_elim}
 use Rattle.std.proofs.lemmas.Bool.{cases_eq}
 use Rattle.std.proofs.lemmas.Option.{slice_get_within}
 use Rattle.std.proofs.Math.ListN.{length-set, length-replicate}
@@ -9,31 +9,25 @@ use Rattle.object_record.specs.Raw.{longs_of}
 use Rattle.object_record.specs.Buffer.{raw_of}
 use Rattle.object_record.specs.Objects.{value_in}
 use Rattle.object_table.specs.declared.entry.Entry.{Entry}
-use Rattle.object_table.specs.Entries.{place_of, with_refs}
+use Rattle.object_table.specs.Entries.{place_of}
 use Rattle.core_view.specs.Words.{pointers}
 use Rattle.core_view.specs.Held.{fields_there}
 use Rattle.core_view.proofs.Steps.{Keeps-refl, Keeps-trans}
 use Rattle.leaf_lambda.specs.Parts.{core_of, spare_of}
 use Rattle.leaf_lambda.specs.Records.{MayBeLambda}
-use Rattle.leaf_lambda.proofs.RoomLaws.{Room-refl, Room-trans}
 use Rattle.leaf_lambda.proofs.FillLaws.{get-set, get-set-other}
 use Rattle.leaf_lambda.proofs.RecordLaws.{get-zeros, map-get}
-use Rattle.leaf_lambda.proofs.TranslateLaws.{Naming-refl, Naming-trans, Within-refl, Within-trans, Light-later, Sparing-refl, Sparing-trans, MayBe-later}
+use Rattle.leaf_lambda.proofs.TranslateLaws.{Light-later, Resolves-refl, Resolves-trans, MayBe-later}
 use Rattle.leaf_lambda.proofs.translate.resolve_fields.Goals as goal
 
 pub loop-i-init : goal.loop-i-init
 loop-i-init c = record {
   parts = c.requires.parts;
   keeps = λ disk backed there. Keeps-refl disk (core_of c.args.p.now) backed;
-  naming = Naming-refl (core_of c.args.p.now);
-  within = Within-refl c.args.s.0 (core_of c.args.p.now);
-  entry = refl;
+  resolves = Resolves-refl c.args.s.0 c.args.p.now;
   long = ap length c.requires.fields ∙ length-replicate c.args.count 0;
   rest = λ j low high. ap (λ (ws : List ℕ). slice_get ws j) c.requires.fields ∙ get-zeros c.args.count j high;
   lambdas = λ j low. absurd (omega arith);
-  sparing = Sparing-refl c.args.p.now;
-  cost = omega arith;
-  room = Room-refl c.args.p.now.segment;
 }
 
 pub long_field-word-requires-clause-field : goal.long_field-word-requires-clause-field
@@ -41,12 +35,12 @@ long_field-word-requires-clause-field c = omega (arith, c.requires.count)
 
 pub resolve_field-requires-clause-there : goal.resolve_field-requires-clause-there
 resolve_field-requires-clause-there c = record {
-  place = ap (λ (e : Entry). place_of e.state) c.loop-i.invariant.entry ∙ c.requires.place;
-  word = ap (λ (e : Entry). slice_get (pointers e.kind ((core_of c.loop-i.p).chunks c.args.at.place).words) c.loop-i.i) c.loop-i.invariant.entry ∙ c.loop-i.invariant.rest c.loop-i.i (omega arith) (omega arith);
+  place = ap (λ (e : Entry). place_of e.state) c.loop-i.invariant.resolves.entry ∙ c.requires.place;
+  word = ap (λ (e : Entry). slice_get (pointers e.kind ((core_of c.loop-i.p).chunks c.args.at.place).words) c.loop-i.i) c.loop-i.invariant.resolves.entry ∙ c.loop-i.invariant.rest c.loop-i.i (omega arith) (omega arith);
 }
 
 pub resolve_field-requires-clause-light : goal.resolve_field-requires-clause-light
-resolve_field-requires-clause-light c = Light-later c.args.s.0 (core_of c.args.p.now) (core_of c.loop-i.p) c.loop-i.invariant.within c.requires.light
+resolve_field-requires-clause-light c = Light-later c.args.s.0 (core_of c.args.p.now) (core_of c.loop-i.p) c.loop-i.invariant.resolves.within c.requires.light
 
 pub loop-i-preserved : goal.loop-i-preserved
 loop-i-preserved c =
@@ -54,18 +48,16 @@ loop-i-preserved c =
     let was = pointers k ((core_of c.loop-i.p).chunks c.args.at.place).words in
     let r = c.resolve_field.ensures in
     let fields : pointers k ((core_of c.resolve_field.new.p).chunks c.args.at.place).words ≡ slice_set was c.loop-i.i c.resolve_field.result =
-    subst (λ (e : Entry). pointers e.kind ((core_of c.resolve_field.new.p).chunks c.args.at.place).words ≡ slice_set (pointers e.kind ((core_of c.loop-i.p).chunks c.args.at.place).words) c.loop-i.i c.resolve_field.result) c.loop-i.invariant.entry r.fields in
-    let later = λ (o : Option Value). MayBe-later (core_of c.loop-i.p).find (core_of c.resolve_field.new.p).find (spare_of c.loop-i.p) (spare_of c.resolve_field.new.p) o r.sparing.few r.sparing.less in
+    subst (λ (e : Entry). pointers e.kind ((core_of c.resolve_field.new.p).chunks c.args.at.place).words ≡ slice_set (pointers e.kind ((core_of c.loop-i.p).chunks c.args.at.place).words) c.loop-i.i c.resolve_field.result) c.loop-i.invariant.resolves.entry r.fields in
+    let later = λ (o : Option Value). MayBe-later (core_of c.loop-i.p).find (core_of c.resolve_field.new.p).find (spare_of c.loop-i.p) (spare_of c.resolve_field.new.p) o r.resolves.sparing.few r.resolves.sparing.less in
     record {
       parts = r.parts;
       keeps = λ disk backed there.
           let first = c.loop-i.invariant.keeps disk backed there in
           Keeps-trans disk (core_of c.args.p.now) (core_of c.loop-i.p) (core_of c.resolve_field.new.p) first
-          (r.keeps disk first.backed (ap (λ (e : Entry). slice_get (fields_there (disk e.name)) c.loop-i.i) c.loop-i.invariant.entry
+          (r.keeps disk first.backed (ap (λ (e : Entry). slice_get (fields_there (disk e.name)) c.loop-i.i) c.loop-i.invariant.resolves.entry
           ∙ ap (λ (vs : List Value). slice_get vs c.loop-i.i) there ∙ map-get (longs_of (raw_of c.args.buf.now).body) c.loop-i.i (omega (arith, c.requires.count)) ∙ ap (λ (x : ℕ). Some (value_in x)) (sym c.long_field-word.ensures)));
-      naming = Naming-trans (core_of c.args.p.now) (core_of c.loop-i.p) (core_of c.resolve_field.new.p) c.loop-i.invariant.naming r.naming;
-      within = Within-trans c.args.s.0 (core_of c.args.p.now) (core_of c.loop-i.p) (core_of c.resolve_field.new.p) c.loop-i.invariant.within r.within;
-      entry = r.entry ∙ ap (λ (e : Entry). with_refs e ((core_of c.resolve_field.new.p).entries c.args.s.0).refs) c.loop-i.invariant.entry;
+      resolves = Resolves-trans c.args.s.0 c.loop-i.i 1 c.args.p.now c.loop-i.p c.resolve_field.new.p c.loop-i.invariant.resolves r.resolves;
       long = ap length fields ∙ length-set was c.loop-i.i c.resolve_field.result ∙ c.loop-i.invariant.long;
       rest = λ j low high. ap (λ (ws : List ℕ). slice_get ws j) fields ∙ get-set-other was c.loop-i.i c.resolve_field.result j (λ e. absurd (omega arith)) ∙ c.loop-i.invariant.rest j (omega arith) high;
       lambdas = λ j low word. ⊎_elim
@@ -76,9 +68,6 @@ loop-i-preserved c =
           (subst (λ (x : ℕ). MayBeLambda (core_of c.loop-i.p).find (spare_of c.loop-i.p) (value_of x)) (c.long_field-word.ensures ∙ ap (λ (z : ℕ). get_or (longs_of (raw_of c.args.buf.now).body) z 0) (sym h)) (r.lambda zero_)))
           (λ (h : j ≢ c.loop-i.i). later (value_of (get_or (longs_of (raw_of c.args.buf.now).body) j 0))
           (c.loop-i.invariant.lambdas j (omega arith) (sym (get-set-other was c.loop-i.i c.resolve_field.result j h) ∙ ap (λ (ws : List ℕ). slice_get ws j) (sym fields) ∙ word))) (cases_eq j c.loop-i.i);
-      sparing = Sparing-trans c.args.p.now c.loop-i.p c.resolve_field.new.p c.loop-i.invariant.sparing r.sparing;
-      cost = let before = c.loop-i.invariant.cost in let one_ = r.cost in omega arith;
-      room = Room-trans c.args.p.now.segment c.loop-i.p.segment c.resolve_field.new.p.segment c.loop-i.invariant.room r.room;
     }
   where
     same : (a b : ℕ) → Some a ≡ Some b → a ≡ b

@@ -36,13 +36,13 @@ there d s q p i n at now long low =
     (get_or (pointers (d.entries s).kind (d.chunks p).words) i 0, record { place = now; word = slice_get-get_or (pointers (d.entries s).kind (d.chunks p).words) i 0 (subst (λ (z : ℕ). i < length (pointers (d.entries s).kind (d.chunks z).words)) same (omega arith)) })
 
 pub place_of_body-at-requires-clause-there : goal.place_of_body-at-requires-clause-there
-place_of_body-at-requires-clause-there c = (c.translate_in.ensures.body.0, c.translate_in.ensures.body.1.place)
+place_of_body-at-requires-clause-there c = (c.translate_in.ensures.opens.0, c.translate_in.ensures.opens.1.body.place)
 
 pub put_field-requires-clause-light : goal.put_field-requires-clause-light
-put_field-requires-clause-light c = Light-later c.args.s.0 (core_of c.args.p.now) (core_of c.translate_in.new.p) c.translate_in.ensures.within c.requires.light
+put_field-requires-clause-light c = Light-later c.args.s.0 (core_of c.args.p.now) (core_of c.translate_in.new.p) c.translate_in.ensures.opens.1.within c.requires.light
 
 pub put_field-requires-clause-there : goal.put_field-requires-clause-there
-put_field-requires-clause-there c = there (core_of c.translate_in.new.p) c.args.s.0 c.translate_in.ensures.body.0 c.place_of_body-at.result.place c.args.i (length (longs_of (raw_of c.args.buf.now).body)) c.translate_in.ensures.body.1.place c.place_of_body-at.ensures c.translate_in.ensures.body.1.same_fields c.requires.field
+put_field-requires-clause-there c = there (core_of c.translate_in.new.p) c.args.s.0 c.translate_in.ensures.opens.0 c.place_of_body-at.result.place c.args.i (length (longs_of (raw_of c.args.buf.now).body)) c.translate_in.ensures.opens.1.body.place c.place_of_body-at.ensures c.translate_in.ensures.opens.1.body.same_fields c.requires.field
 
 pub put_field-requires-clause-held : goal.put_field-requires-clause-held
 put_field-requires-clause-held c = λ is. absurd (odd-short c.args.w c.requires.number is)
@@ -66,7 +66,7 @@ merge_out-requires-clause-copy c =
     let told = c.requires.told in
     let at : place_of ((core_of c.put_field.new.p).entries c.args.s.0).state ≡ Some c.place_of_body-at.result.place = ap (λ (e : Entry). place_of e.state) c.put_field.ensures.entry ∙ c.place_of_body-at.ensures in
     let on = c.requires.leaf.0 in
-    let first = c.translate_in.ensures.within.live c.args.s.0 on in
+    let first = c.translate_in.ensures.opens.1.within.live c.args.s.0 on in
     let then = c.put_field.ensures.within.live c.args.s.0 first.0 in
     let backed : IsBacked (core_of c.put_field.new.p) told.disk = c.put_field.ensures.backed told.disk (c.translate_in.ensures.keeps told.disk told.backed told.there).backed in
     let has : told.disk ((core_of c.put_field.new.p).entries c.args.s.0).name ≡ Some (object_in (raw_of c.translate_in.new.buf)) = still (core_of c.args.p.now) (core_of c.translate_in.new.p) (core_of c.put_field.new.p) told.disk c.args.s.0 (object_in (raw_of c.translate_in.new.buf)) first.1 then.1 (told.there ∙ ap (λ (b : List ℕ). Some (object_in (raw_of b))) (sym c.translate_in.ensures.same)) in (
@@ -102,7 +102,7 @@ returns-clause-stored c = λ disk backed has.
     let o = object_in (raw_of c.args.buf.now) in
     let p = c.place_of_body-at.result.place in
     let on = c.requires.leaf.0 in
-    let first = c.translate_in.ensures.within.live s on in
+    let first = c.translate_in.ensures.opens.1.within.live s on in
     let then = c.put_field.ensures.within.live s first.0 in
     let name : ((core_of c.put_field.new.p).entries s).name ≡ ((core_of c.args.p.now).entries s).name = then.1 ∙ first.1 in
     let one_ = c.translate_in.ensures.keeps disk backed has in
