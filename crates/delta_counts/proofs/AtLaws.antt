@@ -10,11 +10,11 @@ use Rattle.core_segment.specs.Chunks.{Chunk}
 use Rattle.core_view.specs.Core.{Core}
 use Rattle.resident_table.specs.Resident.{short_of}
 use Rattle.resident_table.specs.declared.Parts2.{Parts2}
-use Rattle.counted_core.specs.Levels.{Stored, Levels}
-use Rattle.counted_core.specs.Steps.{changed_at, lowered_by, lowered}
+use Rattle.core_view.specs.Levels.{Stored, Levels}
+use Rattle.core_view.specs.LevelSteps.{changed_at, lowered_by, lowered}
 use Rattle.delta_counts.specs.Parts.{core_with, IsNames, IsChange}
 use Rattle.delta_counts.specs.At.{IsStoredAt, IsAt, can_lower, CanLower}
-use Rattle.counted_core.specs.Dead.{HasCount}
+use Rattle.core_view.specs.Dead.{HasCount}
 
 pub found-used : (p : Parts2) (n s : ℕ) → IsNames p → Some s ≡ short_of p.resident n → is_used (entry_at p.table s).state ≡ true
 unfolding core_with

@@ -9,11 +9,11 @@ use Rattle.core_view.specs.Core.{Core}
 use Rattle.core_view.specs.Kept.{IsCore}
 use Rattle.resident_table.specs.Resident.{held_of, room_of}
 use Rattle.resident_table.specs.declared.Parts2.{Parts2}
-use Rattle.counted_core.specs.Levels.{Levels, heap_of}
-use Rattle.counted_core.specs.Counted.{IsSound}
-use Rattle.counted_core.specs.Dead.{NoneIdle, outside_by, roots_of}
+use Rattle.core_view.specs.Levels.{Levels, heap_of}
+use Rattle.core_view.specs.Counted.{IsSound}
+use Rattle.core_view.specs.Dead.{NoneIdle, outside_by, roots_of}
 use Rattle.long_names.proofs.CountLaws.{thinner-without}
-use Rattle.counted_core.proofs.DeadLaws.{bounded, none-bare}
+use Rattle.core_view.proofs.DeadLaws.{bounded, none-bare}
 use Rattle.long_names.specs.Thin.{IsThinner}
 use Rattle.delta_counts.specs.Parts.{IsCounting}
 use Rattle.delta_counts.specs.At.{IsAt, Drains, DrainsOne}

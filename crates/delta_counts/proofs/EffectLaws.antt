@@ -1,5 +1,5 @@
 -- What calls on the two levels leave, one after another.
-use Rattle.std.proofs.Common.{◌≡◌, ℕ, pos, ◌<◌, ◌≤◌, Bool, true, false, None, is_some, [], List, ◌∷◌, ◌++◌, map, IsTrue, Result, Ok, Err, IfOk, IfErr, refl, sym, ◌∙◌, ap, subst, arith, ⊎_elim}
+use Rattle.std.proofs.Common.{◌≡◌, ℕ, pos, Bool, true, false, None, is_some, [], List, ◌∷◌, ◌++◌, map, IsTrue, Result, Ok, Err, IfOk, IfErr, refl, sym, ◌∙◌, ap, subst, arith, ⊎_elim}
 use Rattle.std.specs.Result.{OnOk, IsErrAnd}
 use Rattle.long_names.specs.declared.value.Value.{Value}
 use Rattle.long_names.proofs.ThinLemmas.{IsThinner-refl, IsThinner-trans}
@@ -7,8 +7,7 @@ use Rattle.loom_host.specs.declared.outside.DiskFault.{DiskFault}
 use Rattle.loom_host.specs.declared.outside.Host.{Ghosts}
 use Rattle.loom_host.specs.declared.outside.Role.TheVariants.{Work}
 use Rattle.object_table.specs.declared.entry.Entry.{Entry}
-use Rattle.object_table.specs.declared.entry.EntryState.{EntryState}
-use Rattle.object_table.specs.Entries.{is_used, place_of, with_refs}
+use Rattle.object_table.specs.Entries.{is_used, place_of}
 use Rattle.object_table.specs.Table.{entries_of, entry_at}
 use Rattle.disk_objects.specs.declared.rest.DiskRest.{DiskRest}
 use Rattle.disk_objects.specs.Calls.{IsFault, IsSlotsFault}
@@ -20,26 +19,23 @@ use Rattle.core_segment.specs.declared.segment.Segment.{Segment}
 use Rattle.core_segment.specs.Chunks.{Chunk}
 use Rattle.core_segment.specs.Segment.{chunk_at}
 use Rattle.core_view.specs.Core.{Core}
-use Rattle.core_view.specs.Counts.{outside}
-use Rattle.core_view.specs.Kept.{IsBacked, IsCore, IsTight, Keeps as Kept, Stays}
+use Rattle.core_view.specs.Kept.{IsBacked, IsCore, IsTight, Keeps as Kept}
 use Rattle.core_view.specs.Once.{HasMarksHere}
-use Rattle.core_view.proofs.Entries.{at-entry}
 use Rattle.core_view.proofs.Lists.{put-here}
-use Rattle.resident_table.specs.Resident.{held_of, room_of}
 use Rattle.resident_table.specs.declared.Parts2.{Parts2}
 use Rattle.leaf_lambda.specs.declared.parts.Parts.{Parts}
 use Rattle.leaf_lambda.specs.Parts.{core_of, IsParts}
 use Rattle.leaf_lambda.specs.Whole.{IsWhole}
-use Rattle.counted_core.specs.Levels.{Levels, heap_of, records_of}
-use Rattle.counted_core.specs.Counted.{IsSound}
-use Rattle.counted_core.specs.Steps.{with_change, with_core, folded}
-use Rattle.counted_core.proofs.ChangeLaws.{folded-sound, folded-heap}
-use Rattle.counted_core.proofs.LevelLaws.{heap-same}
-use Rattle.delta_counts.specs.Parts.{core_with, IsCounting, IsNames, IsReferred, IsHeldMore, IsHeldLess}
+use Rattle.core_view.specs.Levels.{Levels, heap_of, records_of}
+use Rattle.core_view.specs.Counted.{IsSound}
+use Rattle.core_view.specs.LevelSteps.{with_change, with_core, folded}
+use Rattle.core_view.proofs.ChangeLaws.{folded-sound, folded-heap}
+use Rattle.core_view.proofs.LevelLaws.{heap-same}
+use Rattle.delta_counts.specs.Parts.{core_with, IsCounting, IsNames}
 use Rattle.delta_counts.specs.At.{IsAt, AtSome, IsReached, IsSoundWith, CanFold, IsFolded, Drains, DrainsOne}
 use Rattle.delta_counts.specs.Giving.{IsGiving, NoneIdleBelow}
 use Rattle.delta_counts.specs.Faults.{IsFreeFault}
-use Rattle.delta_counts.specs.Effects.{core_in, HasSound, HeapStep, Same, Thinner, IsHeapStep, Reaches, Leaves, Keeps, Counts, Frees, Refers, StandsFor}
+use Rattle.delta_counts.specs.Effects.{HasSound, HeapStep, Same, Thinner, IsHeapStep, Reaches, Leaves, Keeps, Counts, Frees, StandsFor}
 use Rattle.delta_counts.specs.declared.two_levels.TwoLevels.{TwoLevels}
 use Rattle.delta_counts.proofs.AtLaws.{entry-is}
 use Rattle.delta_counts.specs.Shorts.{Lowers, short_value}
@@ -47,7 +43,6 @@ use Rattle.delta_counts.proofs.DrainLaws.{counting-giving, first-none, if-map, n
 use Rattle.delta_counts.proofs.PartLaws.{counting-trans}
 use Rattle.delta_counts.proofs.ShortLaws.{lowers-then, values-same}
 use Rattle.delta_counts.proofs.FaultLaws.{err-map, fault-slots, free-again, slots-again, slots-free}
-use Rattle.delta_counts.proofs.RefLaws.{refs-sound}
 use Rattle.delta_counts.proofs.GiveLaws.{giving-refl, giving-trans, giving-tight, leaf-can, leaf-stored}
 
 -- ---- the parts as a core
@@ -89,46 +84,6 @@ given-whole p q w same g = record {
   tight = subst (λ (c : Core). IsTight c) (core-over p q same) (giving-tight (chunk_at p.segment) p.names q.names g (over-tight p w.tight));
   marks = given-marks p q w.marks g;
 }
-
-same-state : (p q : Parts2) (s r k : ℕ) → IsReferred s r p q → (entry_at q.table k).state ≡ (entry_at p.table k).state
-same-state p q s r k x = subst (λ (f : ℕ → Entry). (f k).state ≡ (entry_at p.table k).state) (sym x.entries)
-    (at-entry (entry_at p.table) s (with_refs (entry_at p.table s) r) (λ j e. e.state ≡ (entry_at p.table j).state) refl (λ j away. refl) k)
-
-same-mark : (p q : Parts2) (s r k : ℕ) → IsReferred s r p q → (entry_at q.table k).flags.marked ≡ (entry_at p.table k).flags.marked
-same-mark p q s r k x = subst (λ (f : ℕ → Entry). (f k).flags.marked ≡ (entry_at p.table k).flags.marked) (sym x.entries)
-    (at-entry (entry_at p.table) s (with_refs (entry_at p.table s) r) (λ j e. e.flags.marked ≡ (entry_at p.table j).flags.marked) refl (λ j away. refl) k)
-
-referred-tight : (p q : Parts) (s r : ℕ) → q.segment ≡ p.segment → IsReferred s r p.names q.names → IsTight (core_of p) → IsTight (core_of q)
-unfolding core_of
-referred-tight p q s r same x tight = record {
-  bodies = λ a owned.
-      let o : (chunk_at q.segment a).owner ≡ (chunk_at p.segment a).owner = ap (λ (g : Segment). (chunk_at g a).owner) same in
-      ap (λ k. place_of (entry_at q.names.table k).state) o ∙ ap place_of (same-state p.names q.names s r (chunk_at p.segment a).owner x) ∙ tight.bodies a (subst (λ k. 0 < k) o owned);
-}
-
-referred-marks : (p q : Parts) (s r : ℕ) → IsReferred s r p.names q.names → HasMarksHere (core_of p) → HasMarksHere (core_of q)
-unfolding core_of
-referred-marks p q s r x m = record {
-  here = λ k on marked.
-      let state = same-state p.names q.names s r k x in
-      ap (λ (z : EntryState). is_some (place_of z)) state ∙ m.here k (ap is_used (sym state) ∙ on) (sym (same-mark p.names q.names s r k x) ∙ marked);
-}
-
-pub referred-whole : (p q : Parts) (s r : ℕ) → IsWhole p → q.segment ≡ p.segment → IsReferred s r p.names q.names → IsCore (core_with (chunk_at p.segment) q.names) → IsWhole q
-referred-whole p q s r w same x core = record {
-  parts = record {
-    core = subst (λ (c : Core). IsCore c) (core-over p q same) core;
-    room = let a = ap held_of x.resident in let b = ap room_of x.resident in let c = x.free in let d = w.parts.room in omega arith;
-  };
-  tight = referred-tight p q s r same x w.tight;
-  marks = referred-marks p q s r x w.marks;
-}
-
-pub held-more-in : (p q : Parts) (s : ℕ) → q.segment ≡ p.segment → IsHeldMore s (core_with (chunk_at p.segment) p.names) (core_with (chunk_at p.segment) q.names) → IsHeldMore s (core_of p) (core_of q)
-held-more-in p q s same x = subst (λ (c : Core). IsHeldMore s c (core_of q)) (core-is p) (subst (λ (c : Core). IsHeldMore s (core_with (chunk_at p.segment) p.names) c) (core-over p q same) x)
-
-pub held-less-in : (p q : Parts) (s : ℕ) → q.segment ≡ p.segment → IsHeldLess s (core_with (chunk_at p.segment) p.names) (core_with (chunk_at p.segment) q.names) → IsHeldLess s (core_of p) (core_of q)
-held-less-in p q s same x = subst (λ (c : Core). IsHeldLess s c (core_of q)) (core-is p) (subst (λ (c : Core). IsHeldLess s (core_with (chunk_at p.segment) p.names) c) (core-over p q same) x)
 
 -- ---- frames and effects
 
@@ -304,35 +259,6 @@ lowered-keeps {H} {host} a b q w ws disk same first last one rest told t at x = 
     keeps = subst (λ (g : Segment). Kept (records_of t) t.core (core_with (chunk_at g) b.parts.names)) (sym same)
         (subst (λ (c : Core). Kept (records_of t) c (core_with (chunk_at a.parts.segment) b.parts.names)) at.core
         (all.stays (chunk_at a.parts.segment) (over-core a.parts a.whole.parts) (records_of t) (subst (λ (c : Core). IsBacked c (records_of t)) (sym at.core) x.backed)))
-
--- ---- references
-
-pub some-refs : (p : Parts) (s : ℕ) → 1 ≤ outside (core_of p) s → 0 < (entry_at p.names.table s).refs
-unfolding core_of outside
-some-refs p s some = omega arith
-
-pub some-outside : (p : Parts) (s : ℕ) → 1 ≤ outside (core_of p) s → 1 ≤ outside (core_with (chunk_at p.segment) p.names) s
-some-outside p s some = subst (λ (c : Core). 1 ≤ outside c s) (sym (core-is p)) some
-
--- a reference more or less leaves counts exact, whatever is owed
-pub refers-keeps : {H : Type 0} {host : Ghosts H} (s refs : ℕ) (owed : List Value) (a b : TwoLevels H host) → Refers s refs a b → Stays (core_in a) (core_in b) → Keeps Same owed owed a b
-refers-keeps {H} {host} s refs owed a b r stays told t at x = record {
-  levels = with_core t (core_with (chunk_at b.parts.segment) b.parts.names);
-  at = record { core = refl; disk = rw r.disk at.disk };
-  sound = subst (λ (g : Segment). IsSound (with_core t (core_with (chunk_at g) b.parts.names)) owed) (sym r.segment)
-      (refs-sound (chunk_at a.parts.segment) a.parts.names b.parts.names s refs t owed at.core x r.referred core still);
-  heap = heap-same t (with_core t (core_with (chunk_at b.parts.segment) b.parts.names)) keeps.held refl;
-}
-  where
-    core : IsCore (core_with (chunk_at a.parts.segment) b.parts.names)
-    core = subst (λ (c : Core). IsCore c) (sym (core-over a.parts b.parts r.segment)) b.whole.parts.core
-
-    still : Stays (core_with (chunk_at a.parts.segment) a.parts.names) (core_with (chunk_at a.parts.segment) b.parts.names)
-    still = subst (λ (c : Core). Stays c (core_with (chunk_at a.parts.segment) b.parts.names)) (sym (core-is a.parts)) (subst (λ (c : Core). Stays (core_of a.parts) c) (sym (core-over a.parts b.parts r.segment)) stays)
-
-    keeps : Kept (records_of t) t.core (core_with (chunk_at b.parts.segment) b.parts.names)
-    keeps = subst (λ (g : Segment). Kept (records_of t) t.core (core_with (chunk_at g) b.parts.names)) (sym r.segment)
-        (subst (λ (c : Core). Kept (records_of t) c (core_with (chunk_at a.parts.segment) b.parts.names)) at.core (still (records_of t) (subst (λ (c : Core). IsBacked c (records_of t)) (sym at.core) x.backed)))
 
 -- ---- what is dead
 

@@ -9,7 +9,7 @@ use Rattle.disk_objects.specs.declared.rest.DiskRest.{DiskRest}
 use Rattle.disk_objects.specs.Calls.{IsFault, IsSlotsFault}
 use Rattle.disk_objects.specs.Disk.{disk_room}
 use Rattle.disk_objects.specs.Places.{IsReadPlace, IsSlotPlace}
-use Rattle.counted_core.specs.Counted.{words}
+use Rattle.core_view.specs.Counted.{words}
 use Rattle.delta_counts.specs.Faults.{IsWordDamage, IsWordsFault, IsFreeFault}
 
 pub err-map : {A E : Type 0} (r : Result A E) {P Q : E → Type 0} → ((e : E) → P e → Q e) → IfErr r P → IfErr r Q

@@ -16,8 +16,8 @@ use Rattle.core_segment.specs.Chunks.{Chunk}
 use Rattle.core_view.specs.Core.{Core}
 use Rattle.core_view.specs.Counts.{change_by, change_of}
 use Rattle.resident_table.specs.declared.Parts2.{Parts2}
-use Rattle.counted_core.specs.Levels.{Stored, Levels, count_in, sum_of}
-use Rattle.counted_core.specs.Steps.{changed_at, recounted, to_count}
+use Rattle.core_view.specs.Levels.{Stored, Levels, count_in, sum_of}
+use Rattle.core_view.specs.LevelSteps.{changed_at, recounted, to_count}
 use Rattle.delta_counts.specs.Parts.{core_with}
 use Rattle.delta_counts.specs.At.{stored_of, IsAt, CanFold, IsFolded}
 use Rattle.delta_counts.proofs.StoredLaws.{object-at, insert-same}

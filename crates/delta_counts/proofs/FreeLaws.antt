@@ -13,16 +13,16 @@ use Rattle.disk_objects.specs.Disk.{DiskObject, IsDisk}
 use Rattle.disk_objects.specs.Calls.{IsGot, HasObject, IsIdle, TookFirst}
 use Rattle.core_segment.specs.Chunks.{Chunk}
 use Rattle.resident_table.specs.declared.Parts2.{Parts2}
-use Rattle.counted_core.specs.Levels.{Stored, Levels, is_waiting}
-use Rattle.counted_core.specs.Counted.{words_of, one_if, IsSound}
+use Rattle.core_view.specs.Levels.{Stored, Levels, is_waiting}
+use Rattle.core_view.specs.Counted.{words_of, one_if, IsSound}
 use Rattle.work_space.specs.Blocks.{times}
-use Rattle.counted_core.specs.Dead.{IsLoose}
-use Rattle.counted_core.specs.Steps.{removed}
-use Rattle.counted_core.proofs.DeadLaws.{waiting-loose}
-use Rattle.counted_core.proofs.FreeLaws.{removed-heap, removed-sound}
-use Rattle.counted_core.proofs.QueueLaws.{times-here, times-other}
+use Rattle.core_view.specs.Dead.{IsLoose}
+use Rattle.core_view.specs.LevelSteps.{removed}
+use Rattle.core_view.proofs.DeadLaws.{waiting-loose}
+use Rattle.core_view.proofs.FreeLaws.{removed-heap, removed-sound}
+use Rattle.core_view.proofs.QueueLaws.{times-here, times-other}
 use Rattle.delta_counts.specs.At.{stored_of, IsAt, IsReached, IsFreedAt, MayGo}
-use Rattle.counted_core.specs.Steps.{with_pending}
+use Rattle.core_view.specs.LevelSteps.{with_pending}
 use Rattle.delta_counts.proofs.StoredLaws.{object-at, remove-same}
 use Rattle.loom_host.proofs.WorkLaws.{work-same}
 

@@ -2,7 +2,7 @@
 use Rattle.std.proofs.Common.{◌≡◌, ◌≢◌, ◌⊎◌, inl, inr, ℕ, pos, ◌+ℤ◌, ◌+◌, ◌*◌, ◌-◌, ◌<◌, Bool, true, false, cond, eqb, [], ◌∷◌, Option, Some, None, is_some, refl, sym, ◌∙◌, ap, subst, arith, ⊎_elim}
 use Rattle.std.specs.Prelude.{IsSome, option_map, nat_eq}
 use Rattle.std.specs.Int.{w64, FitsUnsigned}
-use Rattle.counted_core.specs.Dead.{NoneIdle, outside_by}
+use Rattle.core_view.specs.Dead.{NoneIdle, outside_by}
 use Rattle.delta_counts.proofs.StoredLaws.{object-at}
 use Rattle.std.proofs.lemmas.Grind.{common_steps}
 use Rattle.std.specs.Prelude.{◌/◌, ◌%◌}
@@ -28,12 +28,12 @@ use Rattle.core_view.proofs.Leaves.{idle-core, idle-outside}
 use Rattle.core_view.proofs.Steps.{idle-stays, Stays-refl, Stays-trans}
 use Rattle.resident_table.specs.Resident.{short_of, held_of, room_of}
 use Rattle.resident_table.specs.declared.Parts2.{Parts2}
-use Rattle.counted_core.specs.Levels.{Stored, Levels, record_in, count_in, records_of, heap_of, sum_of, waits}
-use Rattle.counted_core.specs.Counted.{one_if, IsSound}
-use Rattle.counted_core.specs.Steps.{with_change, recounted, to_count, folded, given}
-use Rattle.counted_core.proofs.ChangeLaws.{folded-sound, folded-heap, given-sound, given-heap}
-use Rattle.counted_core.proofs.CanLaws.{sum-fits}
-use Rattle.counted_core.proofs.QueueLaws.{entered-waits}
+use Rattle.core_view.specs.Levels.{Stored, Levels, record_in, count_in, records_of, heap_of, sum_of, waits}
+use Rattle.core_view.specs.Counted.{one_if, IsSound}
+use Rattle.core_view.specs.LevelSteps.{with_change, recounted, to_count, folded, given}
+use Rattle.core_view.proofs.ChangeLaws.{folded-sound, folded-heap, given-sound, given-heap}
+use Rattle.core_view.proofs.CanLaws.{sum-fits}
+use Rattle.core_view.proofs.QueueLaws.{entered-waits}
 use Rattle.delta_counts.specs.Parts.{core_with, IsNames, IsCounting}
 use Rattle.delta_counts.specs.At.{IsStoredAt, IsAt, AtSome, CanFold, IsFolded, IsReached}
 use Rattle.delta_counts.specs.Giving.{IsIdleEntry, IsGiving, NoneIdleBelow}

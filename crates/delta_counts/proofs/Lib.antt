@@ -9,7 +9,6 @@ pub mod FreeLaws
 pub mod GiveLaws
 pub mod DrainLaws
 pub mod NumberLaws
-pub mod RefLaws
 pub mod SwapLaws
 pub mod ShortLaws
 pub mod EffectLaws

@@ -12,11 +12,11 @@ use Rattle.loom_host.specs.Work.{work_of}
 use Rattle.disk_objects.specs.declared.rest.DiskRest.{DiskRest}
 use Rattle.disk_objects.specs.Disk.{DiskObject, Objects, IsDisk}
 use Rattle.disk_objects.specs.Calls.{CanChange, IsIdle, changed_by}
-use Rattle.counted_core.specs.Levels.{Stored, count_in, waits}
+use Rattle.core_view.specs.Levels.{Stored, count_in, waits}
 use Rattle.work_space.specs.Blocks.{times}
-use Rattle.counted_core.specs.Steps.{recounted, joined}
+use Rattle.core_view.specs.LevelSteps.{recounted, joined}
 use Rattle.delta_counts.specs.At.{stored_of, IsStoredAt}
-use Rattle.counted_core.specs.Dead.{HasCount}
+use Rattle.core_view.specs.Dead.{HasCount}
 use Rattle.delta_counts.proofs.StoredLaws.{object-at, insert-same, some-here}
 
 less : (n : ℕ) → 0 < n → pos n +ℤ negsuc 0 ≡ pos (n - 1)

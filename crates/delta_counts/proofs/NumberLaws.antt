@@ -14,11 +14,11 @@ use Rattle.disk_objects.specs.declared.rest.DiskRest.{DiskRest}
 use Rattle.disk_objects.specs.Disk.{DiskObject, Objects, disk_held}
 use Rattle.disk_objects.proofs.KeyLaws.{disk-len}
 use Rattle.disk_objects.proofs.StoredLaws.{remove-at, remove-there}
-use Rattle.counted_core.specs.Levels.{Stored, Levels, heap_of}
-use Rattle.counted_core.specs.Counted.{IsSound}
-use Rattle.counted_core.specs.Numbers.{one_stored, stored_count}
-use Rattle.counted_core.proofs.DeadLaws.{held-there}
-use Rattle.counted_core.proofs.NumberLaws.{held-number}
+use Rattle.core_view.specs.Levels.{Stored, Levels, heap_of}
+use Rattle.core_view.specs.Counted.{IsSound}
+use Rattle.core_view.specs.Numbers.{one_stored, stored_count}
+use Rattle.core_view.proofs.DeadLaws.{held-there}
+use Rattle.core_view.proofs.NumberLaws.{held-number}
 use Rattle.delta_counts.specs.At.{stored_of, IsStoredIn}
 
 -- how many numbers below n are keys

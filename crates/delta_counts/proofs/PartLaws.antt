@@ -1,20 +1,19 @@
 -- Entries whose changes of counts differ, or their references.
-use Rattle.std.proofs.Common.{◌≡◌, ℕ, ℤ, ◌+◌, ◌-◌, ◌*◌, ◌<◌, ◌≤◌, true, refl, sym, ◌∙◌, ap, subst, arith}
+use Rattle.std.proofs.Common.{◌≡◌, ℕ, ℤ, ◌+◌, ◌-◌, ◌*◌, ◌<◌, true, refl, sym, ◌∙◌, ap, subst}
 use Rattle.object_table.specs.declared.entry.Entry.{Entry}
-use Rattle.object_table.specs.Entries.{put, is_short, is_used, with_refs}
+use Rattle.object_table.specs.Entries.{put, is_short, is_used}
 use Rattle.object_table.specs.Table.{entry_at, bound_of, entries_of, free_of}
 use Rattle.core_segment.specs.Chunks.{Chunk}
 use Rattle.core_view.specs.Core.{Core}
 use Rattle.core_view.specs.Counts.{outside}
 use Rattle.core_view.specs.Kept.{IsCore, Keeps}
 use Rattle.core_view.proofs.Entries.{at-entry}
-use Rattle.core_view.proofs.Steps.{Stays-refl, Stays-trans, refs-core, refs-stays, grip-outside, loosen-outside, outside-most}
-use Rattle.core_view.specs.Steps.{with_refs_of}
+use Rattle.core_view.proofs.Steps.{Stays-refl, Stays-trans}
 use Rattle.resident_table.specs.Resident.{short_of}
 use Rattle.resident_table.specs.declared.Parts2.{Parts2}
-use Rattle.counted_core.specs.Steps.{with_change, changed_at}
-use Rattle.counted_core.proofs.ChangeLaws.{change-core, change-backed, change-held, change-outside}
-use Rattle.delta_counts.specs.Parts.{core_with, IsNames, IsCounting, IsReferred, IsHeldMore, IsHeldLess}
+use Rattle.core_view.specs.LevelSteps.{with_change, changed_at}
+use Rattle.core_view.proofs.ChangeLaws.{change-core, change-backed, change-held, change-outside}
+use Rattle.delta_counts.specs.Parts.{core_with, IsNames, IsCounting}
 
 pub names-short : (p : Parts2) (s : ℕ) → IsNames p → is_used (entry_at p.table s).state ≡ true → is_short s ≡ true
 unfolding core_with
@@ -69,34 +68,3 @@ counting-trans p q r a b = record {
 
 pub counting-names : (p q : Parts2) → IsCounting p q → IsNames p → IsNames q
 counting-names p q a names = (names.0, a.core names.0 names.1)
-
--- ---- references
-
-pub refs-core_with : (p now : Parts2) (s r : ℕ) (chunks : ℕ → Chunk) → entry_at now.table ≡ put (entry_at p.table) s (with_refs (entry_at p.table s) r) → entries_of now.table ≡ entries_of p.table → now.resident ≡ p.resident
-    → core_with chunks now ≡ with_refs_of (core_with chunks p) s r
-unfolding core_with
-refs-core_with p now s r chunks entries size resident = λ i. record { entries = entries i; find = short_of (resident i); chunks = chunks; bound = 2 * size i + 2 }
-
-pub referred : (p now : Parts2) (s r : ℕ) → entry_at now.table ≡ put (entry_at p.table) s (with_refs (entry_at p.table s) r) → entries_of now.table ≡ entries_of p.table → free_of now.table ≡ free_of p.table → now.resident ≡ p.resident
-    → IsReferred s r p now
-referred p now s r entries size free resident = record { entries = entries; resident = resident; bound = ap (λ (n : ℕ). 2 * n + 2) size; free = free }
-
-pub held-more : (p now : Parts2) (s : ℕ) (chunks : ℕ → Chunk) → is_used (entry_at p.table s).state ≡ true → entry_at now.table ≡ put (entry_at p.table) s (with_refs (entry_at p.table s) ((entry_at p.table s).refs + 1)) → entries_of now.table ≡ entries_of p.table → now.resident ≡ p.resident
-    → IsCore (core_with chunks p) → IsHeldMore s (core_with chunks p) (core_with chunks now)
-unfolding core_with
-held-more p now s chunks used entries size resident core = subst (λ (c : Core). IsHeldMore s (core_with chunks p) c) (sym (refs-core_with p now s ((entry_at p.table s).refs + 1) chunks entries size resident))
-    (record {
-      core = refs-core (core_with chunks p) s ((entry_at p.table s).refs + 1) core used (let most = core.counted s in omega arith);
-      stays = refs-stays (core_with chunks p) s ((entry_at p.table s).refs + 1) core used (let most = core.counted s in omega arith);
-      outside = λ t. grip-outside (core_with chunks p) s t core used;
-    })
-
-pub held-less : (p now : Parts2) (s : ℕ) (chunks : ℕ → Chunk) → is_used (entry_at p.table s).state ≡ true → entry_at now.table ≡ put (entry_at p.table) s (with_refs (entry_at p.table s) ((entry_at p.table s).refs - 1)) → entries_of now.table ≡ entries_of p.table → now.resident ≡ p.resident
-    → IsCore (core_with chunks p) → 1 ≤ outside (core_with chunks p) s → IsHeldLess s (core_with chunks p) (core_with chunks now)
-unfolding core_with
-held-less p now s chunks used entries size resident core some = subst (λ (c : Core). IsHeldLess s (core_with chunks p) c) (sym (refs-core_with p now s ((entry_at p.table s).refs - 1) chunks entries size resident))
-    (record {
-      core = refs-core (core_with chunks p) s ((entry_at p.table s).refs - 1) core used (outside-most (core_with chunks p) s some);
-      stays = refs-stays (core_with chunks p) s ((entry_at p.table s).refs - 1) core used (outside-most (core_with chunks p) s some);
-      outside = λ t. loosen-outside (core_with chunks p) s t core used some;
-    })

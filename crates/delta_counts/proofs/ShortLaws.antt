@@ -10,13 +10,13 @@ use Rattle.object_table.specs.Table.{entry_at}
 use Rattle.core_segment.specs.Chunks.{Chunk}
 use Rattle.core_view.specs.Core.{Core}
 use Rattle.core_view.specs.Words.{int_of_short}
-use Rattle.counted_core.specs.Levels.{Levels}
-use Rattle.counted_core.specs.Counted.{IsSound}
-use Rattle.counted_core.specs.Steps.{changed_at, lowered_by, with_core}
-use Rattle.counted_core.proofs.ChangeLaws.{lowered-sound}
-use Rattle.counted_core.proofs.LevelLaws.{sound-as, words-cons}
+use Rattle.core_view.specs.Levels.{Levels}
+use Rattle.core_view.specs.Counted.{IsSound}
+use Rattle.core_view.specs.LevelSteps.{changed_at, lowered_by, with_core}
+use Rattle.core_view.proofs.ChangeLaws.{lowered-sound}
+use Rattle.core_view.proofs.LevelLaws.{sound-as, words-cons}
 use Rattle.long_names.proofs.CountLaws.{word_is}
-use Rattle.counted_core.proofs.CanLaws.{change-less}
+use Rattle.core_view.proofs.CanLaws.{change-less}
 use Rattle.resident_table.specs.declared.Parts2.{Parts2}
 use Rattle.delta_counts.specs.Parts.{core_with, IsChange, IsCounting}
 use Rattle.delta_counts.specs.Shorts.{AreAtHand, IsAtHand, Lowers, short_value}

@@ -7,8 +7,8 @@ use Rattle.std.specs.FinMap as map
 use Rattle.std.specs.FinMap.{get-insert, get-remove}
 use Rattle.object_table.specs.Entries.{put}
 use Rattle.core_view.proofs.Lists.{put-here, put-there}
-use Rattle.counted_core.specs.Levels.{Stored, record_in}
-use Rattle.counted_core.proofs.LevelLaws.{by_name}
+use Rattle.core_view.specs.Levels.{Stored, record_in}
+use Rattle.core_view.proofs.LevelLaws.{by_name}
 use Rattle.disk_objects.specs.declared.rest.DiskRest.{DiskRest}
 use Rattle.disk_objects.specs.Disk.{DiskObject, Objects}
 use Rattle.disk_objects.specs.Function.{object_held, count_held, objects_at, counts_at}

@@ -7,8 +7,8 @@ use Rattle.disk_objects.specs.declared.rest.DiskRest.{DiskRest}
 use Rattle.disk_objects.specs.Disk.{DiskObject, Objects, IsDisk}
 use Rattle.disk_objects.specs.Calls as disk
 use Rattle.disk_objects.specs.Calls.{renamed}
-use Rattle.counted_core.specs.Levels.{Stored, Levels}
-use Rattle.counted_core.specs.Steps.{recounted, swapped}
+use Rattle.core_view.specs.Levels.{Stored, Levels}
+use Rattle.core_view.specs.LevelSteps.{recounted, swapped}
 use Rattle.delta_counts.specs.At.{stored_of, IsStoredIn}
 use Rattle.delta_counts.proofs.StoredLaws.{insert-same, object-at}
 

@@ -14,14 +14,14 @@ use Rattle.object_record.proofs.ObjectLaws.{value_in-long, fields-values}
 use Rattle.disk_objects.specs.declared.rest.DiskRest.{DiskRest}
 use Rattle.core_segment.specs.Chunks.{Chunk}
 use Rattle.resident_table.specs.declared.Parts2.{Parts2}
-use Rattle.counted_core.specs.Levels.{Levels, heap_of}
-use Rattle.counted_core.specs.Counted.{words, words_of, IsSound}
-use Rattle.counted_core.specs.Steps.{lowered}
+use Rattle.core_view.specs.Levels.{Levels, heap_of}
+use Rattle.core_view.specs.Counted.{words, words_of, IsSound}
+use Rattle.core_view.specs.LevelSteps.{lowered}
 use Rattle.long_names.proofs.CountLaws.{word_is}
-use Rattle.counted_core.proofs.LevelLaws.{words-cons, word-here, sound-as}
-use Rattle.counted_core.proofs.ChangeLaws.{lowered-sound, lowered-heap}
-use Rattle.counted_core.proofs.CanLaws.{change-less, owed-stored}
-use Rattle.counted_core.proofs.DeadLaws.{held-there}
+use Rattle.core_view.proofs.LevelLaws.{words-cons, word-here, sound-as}
+use Rattle.core_view.proofs.ChangeLaws.{lowered-sound, lowered-heap}
+use Rattle.core_view.proofs.CanLaws.{change-less, owed-stored}
+use Rattle.core_view.proofs.DeadLaws.{held-there}
 use Rattle.long_names.specs.declared.object.Object.{Object}
 use Rattle.delta_counts.specs.At.{IsAt, AtSome, can_lower, CanLower, Owes, IsSoundWith, IsReached, MayGo}
 use Rattle.delta_counts.specs.Faults.{AreValues}

@@ -17,10 +17,10 @@ use Rattle.disk_objects.specs.declared.rest.DiskRest.{DiskRest}
 use Rattle.disk_objects.specs.Disk.{DiskObject, Objects, IsDisk}
 use Rattle.core_segment.specs.Chunks.{Chunk}
 use Rattle.resident_table.specs.declared.Parts2.{Parts2}
-use Rattle.counted_core.specs.Levels.{Stored, Levels, heap_of, sum_of}
-use Rattle.counted_core.specs.Counted.{IsSound}
-use Rattle.counted_core.specs.Dead.{roots_of, IsDead, NoneBareDead, CanGo, HasCount}
-use Rattle.counted_core.specs.Steps.{folded, with_pending}
+use Rattle.core_view.specs.Levels.{Stored, Levels, heap_of, sum_of}
+use Rattle.core_view.specs.Counted.{IsSound}
+use Rattle.core_view.specs.Dead.{roots_of, IsDead, NoneBareDead, CanGo, HasCount}
+use Rattle.core_view.specs.LevelSteps.{folded, with_pending}
 use Rattle.delta_counts.specs.Parts.{core_with, IsChange}
 
 -- what a disk has of a name

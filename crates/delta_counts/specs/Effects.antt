@@ -13,9 +13,8 @@ use Rattle.disk_objects.specs.Stays.{StaysOnWork}
 use Rattle.core_segment.specs.Segment.{chunk_at}
 use Rattle.core_view.specs.Core.{Core}
 use Rattle.leaf_lambda.specs.Parts.{core_of}
-use Rattle.counted_core.specs.Levels.{Levels, heap_of}
-use Rattle.counted_core.specs.Counted.{IsSound}
-use Rattle.delta_counts.specs.Parts.{IsReferred}
+use Rattle.core_view.specs.Levels.{Levels, heap_of}
+use Rattle.core_view.specs.Counted.{IsSound}
 use Rattle.delta_counts.specs.At.{IsAt}
 use Rattle.delta_counts.specs.Giving.{IsGiving}
 use Rattle.delta_counts.specs.Faults.{IsFreeFault}
@@ -83,9 +82,3 @@ pub record Frees {T H : Type 0} {host : Ghosts H} (old new : TwoLevels H host) (
   pub leaves : Leaves Thinner old new
   pub keeps : OnOk result (Keeps Thinner [] [] old new)
   pub fault : IfErr result (IsFreeFault (host.tells Work) (host.faults old.disk.host.now Work) (host.faults new.disk.host.now Work) old.disk.rest)
-
--- the entry of s has this number of references, and nothing else differs
-pub record Refers {H : Type 0} {host : Ghosts H} (s refs : ℕ) (old new : TwoLevels H host) : Type 0 where
-  pub disk : new.disk ≡ old.disk
-  pub segment : new.parts.segment ≡ old.parts.segment
-  pub referred : IsReferred s refs old.parts.names new.parts.names

@@ -7,7 +7,7 @@ use Rattle.loom_host.specs.declared.outside.DiskFault.{DiskFault}
 use Rattle.loom_host.specs.declared.outside.DiskFault.TheVariants as fault
 use Rattle.disk_objects.specs.declared.rest.DiskRest.{DiskRest}
 use Rattle.disk_objects.specs.Places.{IsReadPlace, IsSlotPlace}
-use Rattle.counted_core.specs.Counted.{words}
+use Rattle.core_view.specs.Counted.{words}
 
 -- each of these words is a value
 abbrev pub AreValues : List Value → Type 0

@@ -8,7 +8,7 @@ use Rattle.core_view.specs.Counts.{outside}
 use Rattle.core_view.specs.Kept.{IsCore, Stays}
 use Rattle.resident_table.specs.Resident.{held_of, room_of}
 use Rattle.resident_table.specs.declared.Parts2.{Parts2}
-use Rattle.counted_core.specs.Steps.{with_change}
+use Rattle.core_view.specs.LevelSteps.{with_change}
 use Rattle.delta_counts.specs.Parts.{core_with}
 
 pub record IsIdleEntry (e : Entry) : Type 0 where

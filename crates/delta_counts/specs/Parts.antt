@@ -1,6 +1,5 @@
--- The entries of a core as a core, with the chunks of any segment, and what changes of counts and references leave of them.
-use Rattle.std.specs.Prelude.{◌≡◌, ℕ, ℤ, pos, negsuc, ◌+◌, ◌-◌, ◌^◌, ◌≤ℤ◌}
-use Rattle.object_table.specs.Entries.{put, with_refs}
+-- The entries of a core as a core, with the chunks of any segment, and what changes of counts leave of them.
+use Rattle.std.specs.Prelude.{◌≡◌, ℕ, ℤ, pos, negsuc, ◌-◌, ◌^◌, ◌≤ℤ◌}
 use Rattle.object_table.specs.Table.{entry_at, bound_of, free_of}
 use Rattle.core_segment.specs.Chunks.{Chunk}
 use Rattle.core_view.specs.Core.{Core}
@@ -8,7 +7,7 @@ use Rattle.core_view.specs.Counts.{one, outside}
 use Rattle.core_view.specs.Kept.{IsCore, Stays}
 use Rattle.resident_table.specs.Resident.{short_of}
 use Rattle.resident_table.specs.declared.Parts2.{Parts2}
-use Rattle.counted_core.specs.Steps.{with_change}
+use Rattle.core_view.specs.LevelSteps.{with_change}
 
 unfoldable pub core_with : (ℕ → Chunk) → Parts2 → Core
 core_with chunks p = record { entries = entry_at p.table; find = short_of p.resident; chunks = chunks; bound = bound_of p.table }
@@ -30,22 +29,3 @@ pub record IsCounting (old new : Parts2) : Type 0 where
   pub resident : new.resident ≡ old.resident
   pub bound : bound_of new.table ≡ bound_of old.table
   pub free : free_of new.table ≡ free_of old.table
-
--- the entry of s has this number of references, and nothing else differs
-pub record IsReferred (s refs : ℕ) (old new : Parts2) : Type 0 where
-  pub entries : entry_at new.table ≡ put (entry_at old.table) s (with_refs (entry_at old.table s) refs)
-  pub resident : new.resident ≡ old.resident
-  pub bound : bound_of new.table ≡ bound_of old.table
-  pub free : free_of new.table ≡ free_of old.table
-
--- over any chunks it is a core as before, what is held stays, and there is one reference to s from outside more
-pub record IsHeldMore (s : ℕ) (old new : Core) : Type 0 where
-  pub core : IsCore new
-  pub stays : Stays old new
-  pub outside : (t : ℕ) → outside new t ≡ outside old t + one t s
-
--- or one less
-pub record IsHeldLess (s : ℕ) (old new : Core) : Type 0 where
-  pub core : IsCore new
-  pub stays : Stays old new
-  pub outside : (t : ℕ) → outside new t + one t s ≡ outside old t

@@ -7,9 +7,9 @@ use Rattle.object_table.specs.Entries.{is_used}
 use Rattle.object_table.specs.Table.{entry_at}
 use Rattle.core_segment.specs.Chunks.{Chunk}
 use Rattle.core_view.specs.Words.{int_of_short}
-use Rattle.counted_core.specs.Levels.{Levels}
-use Rattle.counted_core.specs.Counted.{IsSound}
-use Rattle.counted_core.specs.Steps.{with_core}
+use Rattle.core_view.specs.Levels.{Levels}
+use Rattle.core_view.specs.Counted.{IsSound}
+use Rattle.core_view.specs.LevelSteps.{with_core}
 use Rattle.resident_table.specs.declared.Parts2.{Parts2}
 use Rattle.delta_counts.specs.Parts.{core_with}
 

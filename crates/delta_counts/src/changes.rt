@@ -8,8 +8,8 @@ ghost use Rattle.loom_host.specs.Work.{IsWorkOnly};
 ghost use Rattle.disk_objects.specs.Calls.{IsFault};
 ghost use Rattle.disk_objects.specs.Places.{IsSlotPlace};
 ghost use Rattle.disk_objects.specs.Disk.{disk_room, disk_held};
-ghost use Rattle.counted_core.specs.Levels.{Levels};
-ghost use Rattle.counted_core.specs.Steps.{changed_at, lowered};
+ghost use Rattle.core_view.specs.Levels.{Levels};
+ghost use Rattle.core_view.specs.LevelSteps.{changed_at, lowered};
 ghost use Rattle.delta_counts.specs.Parts.{core_with, IsNames, IsChange, IsCounting};
 ghost use Rattle.delta_counts.specs.At.{IsAt, AtSome, CanLower};
 

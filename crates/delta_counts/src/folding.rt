@@ -8,7 +8,7 @@ ghost use Rattle.loom_host.specs.Work.{IsWorkOnly};
 ghost use Rattle.disk_objects.specs.Calls.{IsFault};
 ghost use Rattle.disk_objects.specs.Places.{IsSlotPlace};
 ghost use Rattle.disk_objects.specs.Disk.{disk_room, disk_held};
-ghost use Rattle.counted_core.specs.Levels.{Levels};
+ghost use Rattle.core_view.specs.Levels.{Levels};
 ghost use Rattle.delta_counts.specs.Parts.{IsNames, IsCounting};
 ghost use Rattle.delta_counts.specs.At.{IsAt, AtSome, CanFold, IsFolded};
 

@@ -8,12 +8,12 @@ ghost use Rattle.disk_objects.specs.Disk.{IsDisk, Objects, disk_held};
 ghost use Rattle.disk_objects.specs.Function.{counts_at, objects_at};
 ghost use Rattle.core_segment.specs.Chunks.{Chunk};
 ghost use Rattle.core_view.specs.Purge.{fresh_of};
-ghost use Rattle.core_view.specs.Kept.{IsCore, IsTight, Stays};
+ghost use Rattle.core_view.specs.Kept.{IsTight};
 ghost use Rattle.resident_table.specs.declared.Parts2.{Parts2};
-ghost use Rattle.counted_core.specs.Levels.{Levels, Stored, heap_of, record_in};
-ghost use Rattle.counted_core.specs.Counted.{IsSound};
-ghost use Rattle.counted_core.specs.Steps.{swapped, with_core};
-ghost use Rattle.delta_counts.specs.Parts.{core_with, IsReferred};
+ghost use Rattle.core_view.specs.Levels.{Levels, Stored, heap_of, record_in};
+ghost use Rattle.core_view.specs.Counted.{IsSound};
+ghost use Rattle.core_view.specs.LevelSteps.{swapped};
+ghost use Rattle.delta_counts.specs.Parts.{core_with};
 ghost use Rattle.delta_counts.specs.At.{IsStoredIn};
 ghost use Rattle.delta_counts.specs.Giving.{IsGiving};
 
@@ -23,13 +23,6 @@ pub fn levels_are_the_disk()
         record_in (stored q) ≡ objects_at rest work q }
     ensures counts { (rest : DiskRest) (work : List ℕ) (stored : ℕ → Option Stored) (pending : List ℕ) (q : ℕ) → IsStoredIn rest work stored pending →
         option_map (λ (r : Stored). r.count) (stored q) ≡ counts_at rest work q }
-{}
-
-/// A reference more or less, as `hold` and `release` leave it, leaves counts exact.
-pub fn references_leave_counts()
-    ensures { (chunks : ℕ → Chunk) (old new : Parts2) (s refs : ℕ) (t : Levels) (owed : List Value) → core_with chunks old ≡ t.core → IsSound t owed
-        → IsReferred s refs old new → IsCore (core_with chunks new) → Stays (core_with chunks old) (core_with chunks new)
-        → IsSound (with_core t (core_with chunks new)) owed }
 {}
 
 /// Where entries are given up, each chunk with an owner stays a body.

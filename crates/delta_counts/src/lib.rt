@@ -9,7 +9,7 @@
 //!     levels.give_idle_at(s)?;                         // its leaf, if nothing refers to it any more
 //!     while levels.drain_one(&mut buf)? {}
 //!
-//! What the counts mean stands in `counted_core`: `IsSound t owed` says that they are exact but for the words that are owed. Here `IsAt` says
+//! What the counts mean stands in `core_view`: `IsSound t owed` says that they are exact but for the words that are owed. Here `IsAt` says
 //! that parts and a disk stand for such levels, and each call says what it makes of them where the host tells Work. Read `specs/At.antt` first,
 //! then `Parts.antt` and `Giving.antt`. Bodies are never touched: the layer above frees the dead objects that have one, whose words
 //! `lower_words` lowers from the record that it makes of them, or `lower_shorts` from the short words themselves, where no lambda is

@@ -6,9 +6,9 @@ ghost use Rattle.loom_host.specs.Work.{IsWorkOnly};
 ghost use Rattle.disk_objects.specs.Calls.{IsFault};
 ghost use Rattle.disk_objects.specs.Places.{IsSlotPlace};
 ghost use Rattle.disk_objects.specs.Disk.{disk_room, disk_held};
-ghost use Rattle.counted_core.specs.Levels.{Stored, count_in};
-ghost use Rattle.counted_core.specs.Steps.{recounted, joined};
-ghost use Rattle.counted_core.specs.Dead.{HasCount};
+ghost use Rattle.core_view.specs.Levels.{Stored, count_in};
+ghost use Rattle.core_view.specs.LevelSteps.{recounted, joined};
+ghost use Rattle.core_view.specs.Dead.{HasCount};
 ghost use Rattle.delta_counts.specs.At.{IsStoredAt};
 
 use disk_objects::DiskObjects;

@@ -1,5 +1,4 @@
-// The core and the disk as one struct: references, changes of counts that join the disk, words that are lowered, and leaves and dead
-// names that go.
+// The core and the disk as one struct: changes of counts that join the disk, words that are lowered, and leaves and dead names that go.
 //
 // What the parts keep is a fact of the type, so it holds also behind a fault. That the two stand for sound levels is a condition and a promise,
 // since it is lost where Work fails or lies.
@@ -25,43 +24,22 @@ pub struct TwoLevels<'h, H: Host> {
 }
 
 impl<'h, H: Host> TwoLevels<'h, H> {
-    ghost use Rattle.std.specs.Prelude.{◌≡◌, ◌<◌, ◌≤◌, ◌+◌, ◌-◌, ◌^◌, [], ◌∷◌, true, false, pos, None, map, IsTrue, IfOk, IfErr, OnOk};
+    ghost use Rattle.std.specs.Prelude.{◌≡◌, ◌<◌, ◌≤◌, ◌+◌, ◌-◌, [], ◌∷◌, true, false, pos, None, map, IsTrue, IfOk, IfErr, OnOk};
     ghost use Rattle.object_table.specs.Entries.{free_entry, is_short, is_used, place_of};
     ghost use Rattle.object_table.specs.Table.{bound_of, entries_of, entry_at};
-    ghost use Rattle.core_view.specs.Counts.{outside};
-    ghost use Rattle.delta_counts.specs.Parts.{IsCounting, IsHeldLess, IsHeldMore};
+    ghost use Rattle.delta_counts.specs.Parts.{IsCounting};
     ghost use Rattle.delta_counts.specs.Giving.{IsIdleEntry, NoneIdleBelow};
-    ghost use Rattle.delta_counts.specs.Effects.{core_in, Counts, Frees, HasSound, Keeps, Leaves, Refers, Same, StandsFor};
+    ghost use Rattle.delta_counts.specs.Effects.{Counts, Frees, HasSound, Keeps, Leaves, Same, StandsFor};
     ghost use Rattle.delta_counts.specs.At.{Drains, DrainsOne};
     ghost use Rattle.delta_counts.specs.Shorts.{AreAtHand, short_value};
     ghost use Rattle.delta_counts.specs.Faults.{AreValues, IsWordsFault};
-    ghost use Rattle.counted_core.specs.Counted.{IsSound, words_of};
-    ghost use Rattle.counted_core.specs.Levels.{Levels};
+    ghost use Rattle.core_view.specs.Counted.{IsSound, words_of};
+    ghost use Rattle.core_view.specs.Levels.{Levels};
     ghost use Rattle.core_segment.specs.Segment.{chunk_at};
     ghost use Rattle.disk_objects.specs.Disk.{disk_held};
     ghost use Rattle.object_record.specs.Raw.{longs_of};
     ghost use Rattle.object_record.specs.Buffer.{HasRecord, raw_of};
     ghost use Rattle.object_record.specs.Objects.{value_in, object_in};
-
-    /// One reference to an entry more.
-    pub fn hold(&mut self, s: Short)
-        requires used { is_used (entry_at self.old.parts.names.table s.0).state ≡ true }
-        requires few { (entry_at self.old.parts.names.table s.0).refs < 2 ^ 32 - 1 }
-        ensures refers { Refers s.0 ((entry_at self.old.parts.names.table s.0).refs + 1) self.old self.new }
-        ensures held { IsHeldMore s.0 (core_in self.old) (core_in self.new) }
-    {
-        self.parts.names.table.add_ref(s);
-    }
-
-    /// One reference to an entry less.
-    pub fn release(&mut self, s: Short)
-        requires used { is_used (entry_at self.old.parts.names.table s.0).state ≡ true }
-        requires some { 1 ≤ outside (core_in self.old) s.0 }
-        ensures refers { Refers s.0 ((entry_at self.old.parts.names.table s.0).refs - 1) self.old self.new }
-        ensures held { IsHeldLess s.0 (core_in self.old) (core_in self.new) }
-    {
-        self.parts.names.table.drop_ref(s);
-    }
 
     /// The change of a leaf joins its count on disk, which is answered.
     pub fn fold(&mut self, s: Short) -> Result<u64, DiskFault>

@@ -1,7 +1,7 @@
 use Rattle.std.proofs.Common.{◌≡◌, true, false, refl, subst, arith}
 use Rattle.loom_host.specs.Work.{work_of}
 use Rattle.disk_objects.specs.Disk.{IsDisk}
-use Rattle.counted_core.specs.Levels.{Levels}
+use Rattle.core_view.specs.Levels.{Levels}
 use Rattle.delta_counts.specs.At.{IsFreedAt}
 use Rattle.delta_counts.proofs.FreeLaws.{took-at, none-at, took-some, took-none, first-loose, first-may, first-levels}
 use Rattle.loom_host.proofs.WorkLaws.{exits}

@@ -4,8 +4,8 @@ use Rattle.loom_host.specs.declared.outside.Role.TheVariants.{Work}
 use Rattle.object_record.specs.Buffer.{raw_of}
 use Rattle.object_record.specs.Objects.{object_in}
 use Rattle.disk_objects.specs.Disk.{disk_room}
-use Rattle.counted_core.specs.Counted.{words_of}
-use Rattle.counted_core.specs.Steps.{removed}
+use Rattle.core_view.specs.Counted.{words_of}
+use Rattle.core_view.specs.LevelSteps.{removed}
 use Rattle.delta_counts.specs.Faults.{IsFreeFault}
 use Rattle.delta_counts.proofs.LowerLaws.{ok-map, ok-of}
 use Rattle.delta_counts.proofs.FaultLaws.{err-map, fault-free, words-free}

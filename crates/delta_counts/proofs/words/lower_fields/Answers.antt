@@ -5,7 +5,7 @@ use Rattle.object_record.specs.Raw.{longs_of}
 use Rattle.object_record.specs.Buffer.{raw_of}
 use Rattle.object_record.specs.Objects.{value_in}
 use Rattle.loom_host.proofs.WorkLaws.{work-itself, work-again, exits}
-use Rattle.counted_core.specs.Counted.{IsSound}
+use Rattle.core_view.specs.Counted.{IsSound}
 use Rattle.delta_counts.specs.At.{IsReached}
 use Rattle.delta_counts.proofs.PartLaws.{counting-refl, counting-trans, counting-names}
 use Rattle.delta_counts.proofs.WordLaws.{drop-next, drop-all, reached-then, reached-some, field-value, field-some}

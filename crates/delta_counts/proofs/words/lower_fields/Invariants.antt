@@ -6,8 +6,8 @@ use Rattle.object_record.specs.Objects.{value_in}
 use Rattle.core_segment.specs.Chunks.{Chunk}
 use Rattle.loom_host.specs.Work.{IsWorkOnly}
 use Rattle.disk_objects.specs.Disk.{disk_room, disk_held}
-use Rattle.counted_core.specs.Levels.{Levels}
-use Rattle.counted_core.specs.Counted.{IsSound}
+use Rattle.core_view.specs.Levels.{Levels}
+use Rattle.core_view.specs.Counted.{IsSound}
 use Rattle.delta_counts.specs.Parts.{IsCounting}
 use Rattle.delta_counts.specs.At.{IsAt, IsReached}
 use Rattle.delta_counts.proofs.words.lower_fields.Given as goal

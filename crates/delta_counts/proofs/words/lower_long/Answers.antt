@@ -2,7 +2,7 @@ use Rattle.std.proofs.Common.{inr, refl, sym, subst}
 use Rattle.std.specs.Prelude.{◌∷◌, []}
 use Rattle.long_names.specs.declared.value.Value.{Value}
 use Rattle.loom_host.specs.declared.outside.Role.TheVariants.{Work}
-use Rattle.counted_core.specs.Counted.{IsSound}
+use Rattle.core_view.specs.Counted.{IsSound}
 use Rattle.delta_counts.specs.Faults.{IsWordsFault}
 use Rattle.delta_counts.proofs.FaultLaws.{err-map}
 use Rattle.delta_counts.proofs.WordLaws.{value-is, value-there, owes-same}

@@ -1,6 +1,6 @@
 use Rattle.std.proofs.Common.{subst}
 use Rattle.std.specs.Prelude.{◌∷◌, []}
-use Rattle.counted_core.specs.Counted.{IsSound}
+use Rattle.core_view.specs.Counted.{IsSound}
 use Rattle.delta_counts.proofs.LowerLaws.{ok-map}
 use Rattle.delta_counts.proofs.FaultLaws.{err-map, fault-words}
 use Rattle.delta_counts.proofs.WordLaws.{is-ref, sound-can, owes-can, reached-number, reached-lowered, word-some}

@@ -8,7 +8,7 @@ use Rattle.loom_host.specs.declared.outside.Role.TheVariants.{Work}
 use Rattle.object_record.specs.Buffer.{raw_of}
 use Rattle.object_record.specs.Objects.{object_in, value_in}
 use Rattle.object_record.specs.Raw.{longs_of}
-use Rattle.counted_core.specs.Counted.{words_of}
+use Rattle.core_view.specs.Counted.{words_of}
 use Rattle.delta_counts.specs.Faults.{IsWordsFault}
 use Rattle.delta_counts.proofs.words.lower_words.Goals as goal
 

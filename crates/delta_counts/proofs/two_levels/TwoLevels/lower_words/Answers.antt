@@ -1,7 +1,7 @@
 use Rattle.std.proofs.Common.{[], refl}
 use Rattle.object_record.specs.Buffer.{raw_of}
 use Rattle.object_record.specs.Objects.{object_in}
-use Rattle.counted_core.specs.Counted.{words_of}
+use Rattle.core_view.specs.Counted.{words_of}
 use Rattle.delta_counts.proofs.DrainLaws.{counting-giving}
 use Rattle.delta_counts.proofs.EffectLaws.{names-of, given-whole, reached-ok, some-at}
 use Rattle.delta_counts.proofs.two_levels.TwoLevels.lower_words.Goals as goal
