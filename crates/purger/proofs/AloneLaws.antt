@@ -18,7 +18,7 @@ use Rattle.core_view.proofs.Lists.{put-there}
 use Rattle.core_view.proofs.Words.{body-fields}
 use Rattle.leaf_lambda.specs.declared.parts.Parts.{Parts}
 use Rattle.leaf_lambda.specs.Parts.{core_of}
-use Rattle.counted_core.specs.Counted.{words_of}
+use Rattle.core_view.specs.Counted.{words_of}
 use Rattle.delta_counts.specs.Shorts.{AreAtHand, IsAtHand, short_value}
 use Rattle.purger.specs.Alone.{AreFields, NoneIsZero}
 use Rattle.purger.specs.Draining.{IsForgotten}

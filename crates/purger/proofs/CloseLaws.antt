@@ -20,12 +20,12 @@ use Rattle.core_view.specs.Room.{IsBare}
 use Rattle.core_view.proofs.Core.{placed-used}
 use Rattle.leaf_lambda.specs.declared.parts.Parts.{Parts}
 use Rattle.leaf_lambda.specs.Parts.{core_of}
-use Rattle.counted_core.specs.Levels.{Levels, heap_of, is_waiting}
-use Rattle.counted_core.specs.Counted.{one_if, IsSound}
-use Rattle.counted_core.specs.Dead.{outside_by, is_root, IsImage, NoneDead}
-use Rattle.counted_core.proofs.DeadLaws.{bounded, waiting-loose}
-use Rattle.counted_core.proofs.EndLaws.{drained-kept, image}
-use Rattle.counted_core.proofs.QueueLaws.{times-here}
+use Rattle.core_view.specs.Levels.{Levels, heap_of, is_waiting}
+use Rattle.core_view.specs.Counted.{one_if, IsSound}
+use Rattle.core_view.specs.Dead.{outside_by, is_root, IsImage, NoneDead}
+use Rattle.core_view.proofs.DeadLaws.{bounded, waiting-loose}
+use Rattle.core_view.proofs.EndLaws.{drained-kept, image}
+use Rattle.core_view.proofs.QueueLaws.{times-here}
 use Rattle.delta_counts.specs.At.{IsReached, IsStoredIn}
 use Rattle.purger.specs.Closing.{HasKept}
 use Rattle.purger.specs.Draining.{IsDrainedOf}

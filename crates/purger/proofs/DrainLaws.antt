@@ -36,12 +36,12 @@ use Rattle.core_view.proofs.Purge.{body-then}
 use Rattle.leaf_lambda.specs.declared.parts.Parts.{Parts}
 use Rattle.leaf_lambda.specs.Parts.{core_of, IsParts}
 use Rattle.resident_table.specs.Resident.{short_of}
-use Rattle.counted_core.specs.Levels.{Stored, Levels, heap_of, count_in, record_in, records_of}
-use Rattle.counted_core.specs.Counted.{one_if, words, IsSound}
-use Rattle.counted_core.specs.Dead.{IsDead, outside_by}
-use Rattle.counted_core.proofs.CanLaws.{sum-is}
-use Rattle.counted_core.proofs.DeadLaws.{bounded, uncounted-unused}
-use Rattle.counted_core.proofs.QueueLaws.{entered-waits}
+use Rattle.core_view.specs.Levels.{Stored, Levels, heap_of, count_in, record_in, records_of}
+use Rattle.core_view.specs.Counted.{one_if, words, IsSound}
+use Rattle.core_view.specs.Dead.{IsDead, outside_by}
+use Rattle.core_view.proofs.CanLaws.{sum-is}
+use Rattle.core_view.proofs.DeadLaws.{bounded, uncounted-unused}
+use Rattle.core_view.proofs.QueueLaws.{entered-waits}
 use Rattle.delta_counts.specs.At.{IsReached, IsStoredAt}
 use Rattle.delta_counts.specs.Giving.{IsGiving}
 use Rattle.delta_counts.specs.Faults.{AreValues, IsWordsFault}

@@ -19,9 +19,9 @@ use Rattle.core_view.proofs.Core.{placed-used}
 use Rattle.core_view.proofs.Purge.{body-stays}
 use Rattle.leaf_lambda.specs.declared.parts.Parts.{Parts}
 use Rattle.leaf_lambda.specs.Parts.{core_of, spare_of}
-use Rattle.counted_core.specs.Levels.{Levels, records_of}
-use Rattle.counted_core.specs.Counted.{IsSound, words_of}
-use Rattle.counted_core.specs.Dead.{IsDead}
+use Rattle.core_view.specs.Levels.{Levels, records_of}
+use Rattle.core_view.specs.Counted.{IsSound, words_of}
+use Rattle.core_view.specs.Dead.{IsDead}
 use Rattle.delta_counts.specs.At.{IsStoredAt}
 use Rattle.delta_counts.specs.Effects.{HasSound, Keeps, Leaves, Same, StandsFor}
 use Rattle.delta_counts.proofs.LowerLaws.{ok-map, ok-of}

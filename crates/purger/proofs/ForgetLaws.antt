@@ -25,15 +25,15 @@ use Rattle.leaf_lambda.specs.declared.parts.Parts.{Parts}
 use Rattle.leaf_lambda.specs.Parts.{core_of, spare_of, IsParts, IsWithin}
 use Rattle.leaf_lambda.proofs.FillLaws.{put-twice}
 use Rattle.leaf_lambda.proofs.TranslateLaws.{Within-trans}
-use Rattle.counted_core.specs.Levels.{Stored, Levels, count_in, records_of, heap_of, sum_of}
-use Rattle.counted_core.specs.Counted.{words_of, one_if, IsSound}
-use Rattle.counted_core.specs.Dead.{outside_by, IsDead, CanGo}
-use Rattle.counted_core.specs.Steps.{changed_at, folded, given, recounted, removed, to_count, with_core, written_at}
-use Rattle.counted_core.proofs.CameLaws.{came-sound}
-use Rattle.counted_core.proofs.FreeLaws.{removed-heap, removed-sound}
-use Rattle.counted_core.proofs.LevelLaws.{heap-same}
-use Rattle.counted_core.proofs.QueueLaws.{entered-waits, joined-there}
-use Rattle.counted_core.proofs.StoreLaws.{written-sound}
+use Rattle.core_view.specs.Levels.{Stored, Levels, count_in, records_of, heap_of, sum_of}
+use Rattle.core_view.specs.Counted.{words_of, one_if, IsSound}
+use Rattle.core_view.specs.Dead.{outside_by, IsDead, CanGo}
+use Rattle.core_view.specs.LevelSteps.{changed_at, folded, given, recounted, removed, to_count, with_core, written_at}
+use Rattle.core_view.proofs.CameLaws.{came-sound}
+use Rattle.core_view.proofs.FreeLaws.{removed-heap, removed-sound}
+use Rattle.core_view.proofs.LevelLaws.{heap-same}
+use Rattle.core_view.proofs.QueueLaws.{entered-waits, joined-there}
+use Rattle.core_view.proofs.StoreLaws.{written-sound}
 use Rattle.delta_counts.specs.At.{IsStoredAt}
 use Rattle.delta_counts.proofs.GiveLaws.{given-is}
 use Rattle.purger.specs.Counts.{StandsFor}
@@ -189,7 +189,7 @@ same-levels c d f g pending next e h = ap₂ (λ (x : Core) (k : ℕ → Option 
 -- the entry of a leaf whose change was folded goes as that of the leaf
 folded-gone : (d : Core) (s m n : ℕ) → m ≡ n → without_leaf (changed_at d s (pos 0)) s m ≡ without_leaf d s n
 folded-gone d s m n e = ap₂ (λ (f : ℕ → Entry) (g : ℕ → Option ℕ). let x : Core = record { entries = f; find = g; chunks = d.chunks; bound = d.bound } in x)
-    (put-twice d.entries s (Rattle.counted_core.specs.Steps.with_change (d.entries s) (pos 0)) free_entry) (ap (λ (k : ℕ). put d.find k None) e)
+    (put-twice d.entries s (Rattle.core_view.specs.LevelSteps.with_change (d.entries s) (pos 0)) free_entry) (ap (λ (k : ℕ). put d.find k None) e)
 
 put-thrice : (f : ℕ → Option Stored) (m n : ℕ) (a b : Option Stored) → m ≡ n → put (put (put f n a) m b) n None ≡ put f n None
 put-thrice f m n a b e = ap (λ (k : ℕ). put (put (put f n a) k b) n None) e ∙ put-twice (put f n a) n b None ∙ put-twice f n a None

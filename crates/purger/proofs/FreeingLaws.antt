@@ -11,8 +11,8 @@ use Rattle.disk_objects.proofs.StayLaws.{stays-refl, stays-trans}
 use Rattle.core_segment.specs.Segment.{chunk_at, free_of}
 use Rattle.core_view.proofs.Purge.{body-then}
 use Rattle.leaf_lambda.specs.Parts.{core_of}
-use Rattle.counted_core.specs.Levels.{Levels, heap_of}
-use Rattle.counted_core.specs.Counted.{IsSound}
+use Rattle.core_view.specs.Levels.{Levels, heap_of}
+use Rattle.core_view.specs.Counted.{IsSound}
 use Rattle.delta_counts.specs.At.{DrainsOne}
 use Rattle.delta_counts.specs.Effects.{Counts, Frees, HasSound, Keeps, Leaves, Same, StandsFor, Thinner}
 use Rattle.delta_counts.specs.declared.two_levels.TwoLevels.{TwoLevels}

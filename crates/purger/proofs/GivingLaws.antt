@@ -25,8 +25,8 @@ use Rattle.core_view.proofs.Purge.{Purged-trans, about-purged}
 use Rattle.core_view.proofs.Steps.{outside-used}
 use Rattle.leaf_lambda.specs.declared.parts.Parts.{Parts}
 use Rattle.leaf_lambda.specs.Parts.{core_of, spare_of, IsParts, IsWithin}
-use Rattle.counted_core.specs.Dead.{NoneIdle}
-use Rattle.counted_core.specs.Steps.{with_change}
+use Rattle.core_view.specs.Dead.{NoneIdle}
+use Rattle.core_view.specs.LevelSteps.{with_change}
 use Rattle.delta_counts.specs.Parts.{core_with}
 use Rattle.delta_counts.specs.Giving.{IsGiving, NoneIdleBelow}
 use Rattle.delta_counts.proofs.GiveLaws.{none-idle}

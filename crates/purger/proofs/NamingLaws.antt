@@ -8,10 +8,10 @@ use Rattle.core_view.specs.Counts.{uses, outside, change_by}
 use Rattle.core_view.specs.Kept.{IsCore, Keeps, Stays}
 use Rattle.core_view.specs.Steps.{IsMove}
 use Rattle.leaf_lambda.specs.Parts.{IsNaming, IsWithin}
-use Rattle.counted_core.specs.Levels.{Levels, records_of}
-use Rattle.counted_core.specs.Counted.{IsSound}
-use Rattle.counted_core.specs.Steps.{with_core, IsUncounted}
-use Rattle.counted_core.proofs.CameLaws.{came-sound}
+use Rattle.core_view.specs.Levels.{Levels, records_of}
+use Rattle.core_view.specs.Counted.{IsSound}
+use Rattle.core_view.specs.LevelSteps.{with_core, IsUncounted}
+use Rattle.core_view.proofs.CameLaws.{came-sound}
 use Rattle.purger.specs.Marks.{IsUnmarking}
 use Rattle.purger.specs.Counts.{KeepsCounts}
 use Rattle.purger.proofs.MarkLaws.{unmarked-same}

@@ -1,6 +1,7 @@
 -- What calls on a pager leave, one after another.
 use Rattle.std.proofs.Common.{◌≡◌, inl, inr, ℕ, ◌+◌, ◌*◌, ◌<◌, IsTrue, Result, Ok, Err, true, [], Option, Some, is_some, refl, sym, ap, subst, ◌∙◌, arith, ⊎_elim}
 use Rattle.std.specs.Result.{OnOk, IsErrAnd}
+use Rattle.std.specs.Prelude.{◌⊎◌, IfOk}
 use Rattle.loom_host.specs.declared.outside.DiskFault.{DiskFault}
 use Rattle.loom_host.specs.declared.outside.Host.{Ghosts}
 use Rattle.loom_host.specs.declared.outside.Role.TheVariants.{Work}
@@ -26,9 +27,10 @@ use Rattle.delta_counts.proofs.EffectLaws.{keeps-refl, keeps-then, sound-after}
 use Rattle.purger.specs.Counts.{IsGivingUp, KeepsSound}
 use Rattle.purger.specs.Marks.{AreHere, KeepsMarks}
 use Rattle.purger.specs.Purge.{IsPurgeFault, KeepsBodies}
-use Rattle.purger.specs.Rounds.{KeepsAllBut}
-use Rattle.purger.specs.Pager.{core_in, Clears, IsReady, Moves, Preserves, Purges, Spares}
+use Rattle.purger.specs.Rounds.{IsFewBehind, KeepsAllBut}
+use Rattle.purger.specs.Pager.{core_in, Clears, IsReady, Moves, Passes, Preserves, Purges, Spares}
 use Rattle.purger.specs.declared.pager.Pager.{Pager}
+use Rattle.purger.specs.declared.room.Behind.{Behind}
 use Rattle.purger.specs.declared.room.Pinned.{Pinned}
 use Rattle.purger.specs.declared.room.RoomFault.{RoomFault}
 use Rattle.purger.specs.declared.room.RoomFault.TheVariants.{Short, Disk}
@@ -36,7 +38,9 @@ use Rattle.purger.proofs.GivingLaws.{given-idle, given-marks, given-purged, givi
 use Rattle.purger.proofs.MarkLaws.{Kept-refl, Kept-trans, Marks-same, Marks-trans, move-marks}
 use Rattle.purger.proofs.MindLaws.{minds-kept, minds-refl, minds-trans, purged-came}
 use Rattle.purger.proofs.NamingLaws.{Counts-refl, Counts-trans, move-counts}
-use Rattle.purger.proofs.OnlyLaws.{less-refl, less-same, less-trans, only-all, only-refl, only-trans}
+use Rattle.purger.proofs.OnlyLaws.{keeps-refl as keeps-bodies, less-refl, less-same, less-trans, only-all, only-refl, only-trans}
+use Rattle.purger.proofs.RoundLaws.{kept-all}
+use Rattle.purger.proofs.SweptLaws.{if-ok}
 use Rattle.purger.proofs.RoomLaws.{all-pinned, bound-entries, disk-later, some-of, undisturbed-map}
 use Rattle.purger.proofs.SoundLaws.{has-number, quiet-keeps}
 
@@ -252,6 +256,31 @@ counts-purges {T} {H} {host} a b (Err f) pinned x = record {
 
 pub one-then : (s : ℕ) (a b c : Core) → KeepsAllBut s a b → KeepsBodies b c → KeepsAllBut s a c
 one-then s a b c one keeps t p at = ⊎_elim (λ (e : t ≡ s). inl e) (λ (same : IsSameBody a b t p). inr (body-then a b c t p same (keeps t same.at same.place))) (one t p at)
+
+-- ---- an entry that the search comes to
+
+-- no body goes, and no more room is wanting than before
+pub passes-still : {H : Type 0} {host : Ghosts H} (s part words entries : ℕ) (b : Behind) (p q : Pager H host) → Purges p q (Ok b) → KeepsBodies (core_in p) (core_in q)
+    → (IsFewBehind part words entries p.levels.parts b.left → IsFewBehind part words entries q.levels.parts b.left) → Passes s part words entries b.left p q (Ok b)
+passes-still {H} {host} s part words entries b p q purges keeps few = record {
+  purges = purges;
+  one = kept-all s (core_in p) (core_in q) keeps;
+  behind = inl (refl, keeps);
+  few = few;
+}
+
+pub passes-none : {H : Type 0} {host : Ghosts H} (s part words entries : ℕ) (b : Behind) (p : Pager H host) → Passes s part words entries b.left p p (Ok b)
+passes-none {H} {host} s part words entries b p = passes-still s part words entries b p p (purges-none p b) (keeps-bodies (core_in p)) (λ few. few)
+
+-- the object of the entry is evicted
+pub passes-one : {H : Type 0} {host : Ghosts H} (s part words entries left : ℕ) (p q : Pager H host) (r : Result Behind DiskFault) → Purges p q r → KeepsAllBut s (core_in p) (core_in q)
+    → IfOk r (λ b. (b.left ≡ left + 1) ⊎ ((b.left ≡ 0) × HasNoIdle (core_in q))) → IfOk r (λ b. IsFewBehind part words entries q.levels.parts b.left) → Passes s part words entries left p q r
+passes-one {H} {host} s part words entries left p q r purges one counted few = record {
+  purges = purges;
+  one = one;
+  behind = if-ok r (λ b c. inr c) counted;
+  few = if-ok r (λ b f was. f) few;
+}
 
 -- ---- going over the table
 

@@ -25,12 +25,12 @@ use Rattle.core_view.specs.Purge.{fresh_of}
 use Rattle.core_view.specs.Steps.{written}
 use Rattle.leaf_lambda.specs.declared.parts.Parts.{Parts}
 use Rattle.leaf_lambda.specs.Parts.{core_of, IsParts}
-use Rattle.counted_core.specs.Levels.{Stored, Levels, count_in, records_of, heap_of}
-use Rattle.counted_core.specs.Counted.{IsSound}
-use Rattle.counted_core.specs.Steps.{with_core, written_at, IsUncounted}
-use Rattle.counted_core.proofs.CameLaws.{came-sound}
-use Rattle.counted_core.proofs.LevelLaws.{heap-same}
-use Rattle.counted_core.proofs.StoreLaws.{written-sound}
+use Rattle.core_view.specs.Levels.{Stored, Levels, count_in, records_of, heap_of}
+use Rattle.core_view.specs.Counted.{IsSound}
+use Rattle.core_view.specs.LevelSteps.{with_core, written_at, IsUncounted}
+use Rattle.core_view.proofs.CameLaws.{came-sound}
+use Rattle.core_view.proofs.LevelLaws.{heap-same}
+use Rattle.core_view.proofs.StoreLaws.{written-sound}
 use Rattle.delta_counts.specs.Parts.{core_with, IsNames}
 use Rattle.delta_counts.specs.At.{stored_of, IsStoredIn, IsStoredAt, IsReached}
 use Rattle.delta_counts.proofs.NumberLaws.{held-on_disk}

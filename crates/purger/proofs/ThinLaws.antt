@@ -20,9 +20,9 @@ use Rattle.core_view.specs.Purge.{fresh_of, IsPurged}
 use Rattle.core_view.proofs.Purge.{Purged-refl, Purged-trans, body-stays, body-then}
 use Rattle.leaf_lambda.specs.declared.parts.Parts.{Parts}
 use Rattle.leaf_lambda.specs.Parts.{core_of, spare_of, IsParts}
-use Rattle.counted_core.specs.Levels.{Levels, heap_of}
-use Rattle.counted_core.specs.Counted.{IsSound}
-use Rattle.counted_core.specs.Dead.{IsDead, NoneBareDead, NoneDead, bare_by, outside_by}
+use Rattle.core_view.specs.Levels.{Levels, heap_of}
+use Rattle.core_view.specs.Counted.{IsSound}
+use Rattle.core_view.specs.Dead.{IsDead, NoneBareDead, NoneDead, bare_by, outside_by}
 use Rattle.delta_counts.specs.At.{IsReached}
 use Rattle.delta_counts.specs.Giving.{IsGiving}
 use Rattle.delta_counts.proofs.NumberLaws.{held-on_disk}

@@ -5,9 +5,9 @@ use Rattle.long_names.specs.Kept.{kept, no_roots}
 use Rattle.loom_host.specs.declared.outside.Host.{Ghosts}
 use Rattle.disk_objects.specs.declared.rest.DiskRest.{DiskRest}
 use Rattle.leaf_lambda.specs.declared.parts.Parts.{Parts}
-use Rattle.counted_core.specs.Levels.{Stored, Levels, heap_of}
-use Rattle.counted_core.specs.Counted.{IsSound}
-use Rattle.counted_core.specs.Dead.{IsImage}
+use Rattle.core_view.specs.Levels.{Stored, Levels, heap_of}
+use Rattle.core_view.specs.Counted.{IsSound}
+use Rattle.core_view.specs.Dead.{IsImage}
 use Rattle.delta_counts.specs.At.{IsStoredAt}
 use Rattle.purger.specs.Counts.{StandsFor}
 

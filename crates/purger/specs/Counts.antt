@@ -13,9 +13,9 @@ use Rattle.core_segment.specs.Segment.{chunk_at}
 use Rattle.core_view.specs.Core.{Core}
 use Rattle.core_view.specs.Counts.{outside, change_of}
 use Rattle.leaf_lambda.specs.declared.parts.Parts.{Parts}
-use Rattle.counted_core.specs.Levels.{Stored, Levels}
-use Rattle.counted_core.specs.Counted.{IsSound}
-use Rattle.counted_core.specs.Steps.{with_change}
+use Rattle.core_view.specs.Levels.{Stored, Levels}
+use Rattle.core_view.specs.Counted.{IsSound}
+use Rattle.core_view.specs.LevelSteps.{with_change}
 use Rattle.delta_counts.specs.At.{IsAt, IsReached}
 
 -- parts and a disk stand for these levels

@@ -16,9 +16,9 @@ use Rattle.core_view.specs.Room.{is_among}
 use Rattle.core_view.specs.Steps.{IsIdle, written}
 use Rattle.leaf_lambda.specs.declared.parts.Parts.{Parts}
 use Rattle.leaf_lambda.specs.Parts.{core_of, spare_of, IsParts, IsWithin}
-use Rattle.counted_core.specs.Levels.{Stored, Levels, heap_of}
-use Rattle.counted_core.specs.Counted.{IsSound}
-use Rattle.counted_core.specs.Dead.{IsDead, NoneBareDead, NoneDead}
+use Rattle.core_view.specs.Levels.{Stored, Levels, heap_of}
+use Rattle.core_view.specs.Counted.{IsSound}
+use Rattle.core_view.specs.Dead.{IsDead, NoneBareDead, NoneDead}
 use Rattle.purger.specs.Counts.{StandsFor}
 use Rattle.purger.specs.Marks.{AreHere, LeavesMarks, MindsMarks}
 use Rattle.purger.specs.Purge.{KeepsBodies}

@@ -7,7 +7,7 @@ use Rattle.loom_host.specs.declared.outside.Role.TheVariants.{Work}
 use Rattle.object_record.specs.Buffer.{HasRecord}
 use Rattle.core_segment.specs.Segment.{free_of}
 use Rattle.disk_objects.specs.Stays.{StaysOnWork}
-use Rattle.counted_core.specs.Levels.{Levels}
+use Rattle.core_view.specs.Levels.{Levels}
 use Rattle.purger.specs.Draining.{DrainsBare, DrainsDead, KeepsLevels, LeavesRest, Thins}
 use Rattle.purger.specs.Marks.{MindsMarks}
 use Rattle.purger.specs.Pager.{core_in}

@@ -11,9 +11,9 @@ use Rattle.core_view.specs.Counts.{outside}
 use Rattle.core_view.specs.Held.{object_at}
 use Rattle.core_view.specs.Kept.{Stays}
 use Rattle.leaf_lambda.specs.Parts.{spare_of, IsWithin}
-use Rattle.counted_core.specs.Levels.{Levels, records_of}
-use Rattle.counted_core.specs.Counted.{IsSound, words_of}
-use Rattle.counted_core.specs.Dead.{IsDead}
+use Rattle.core_view.specs.Levels.{Levels, records_of}
+use Rattle.core_view.specs.Counted.{IsSound, words_of}
+use Rattle.core_view.specs.Dead.{IsDead}
 use Rattle.delta_counts.specs.Effects.{Keeps, Reaches, Same, StandsFor, Without}
 use Rattle.purger.specs.Draining.{HasDead, IsForgotten, IsThinned}
 use Rattle.purger.specs.Freeing.{LeavesNamed}

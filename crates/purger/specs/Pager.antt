@@ -1,6 +1,6 @@
 -- What a call owes of a pager: before it (`IsReady`), whatever it answers (`Spares`), and where it is done (`Preserves`). `Purges` and `Clears` are the
 -- last two and the cause, by the answer. `Moves` is the case in which no object leaves and the disk isn't touched, and that implies both.
-use Rattle.std.specs.Prelude.{◌≡◌, ℕ, pos, ◌+◌, ◌≤◌, true, None, [], IsTrue, Result, OnOk, IfErr}
+use Rattle.std.specs.Prelude.{◌≡◌, ℕ, pos, ◌+◌, ◌≤◌, true, None, [], IsTrue, Result, OnOk, IfOk, IfErr}
 use Rattle.loom_host.specs.declared.outside.DiskFault.{DiskFault}
 use Rattle.loom_host.specs.declared.outside.Host.{Ghosts}
 use Rattle.loom_host.specs.declared.outside.Role.TheVariants.{Work}
@@ -16,8 +16,9 @@ use Rattle.delta_counts.specs.Effects.{HasSound, Keeps, Same}
 use Rattle.purger.specs.Counts.{KeepsCounts}
 use Rattle.purger.specs.Marks.{KeepsMarks, LeavesMarks, MindsMarks}
 use Rattle.purger.specs.Purge.{IsPurgeFault, IsShort, OnDisk, OnShort, Undisturbed}
-use Rattle.purger.specs.Rounds.{HasNoLess, HasOnlyOf}
+use Rattle.purger.specs.Rounds.{HasCounted, HasNoLess, HasOnlyOf, IsFewBehind, KeepsAllBut}
 use Rattle.core_view.specs.Purge.{fresh_of}
+use Rattle.purger.specs.declared.room.Behind.{Behind}
 use Rattle.purger.specs.declared.room.RoomFault.{RoomFault}
 use Rattle.purger.specs.declared.pager.Pager.{Pager}
 
@@ -78,3 +79,11 @@ pub record HasLeft {H : Type 0} {host : Ghosts H} (s : ℕ) (p : Pager H host) :
   pub gone : place_of ((core_in p).entries s).state ≡ None
   pub none : is_used ((core_in p).entries s).state ≡ true → 1 ≤ ((core_in p).entries s).refs
   pub folded : IsTrue (host.tells Work) → ((core_in p).entries s).change ≡ pos 0
+
+-- The search for what goes comes to an entry: its body goes, or none does. What left since the table was swept is counted, from so many on, and
+-- where it was more than a part of the table, there was room or words were wanting.
+pub record Passes {H : Type 0} {host : Ghosts H} (s part words entries left : ℕ) (old new : Pager H host) (result : Result Behind DiskFault) : Type 0 where
+  pub purges : Purges old new result
+  pub one : KeepsAllBut s (core_in old) (core_in new)
+  pub behind : IfOk result (λ b. HasCounted left b.left (core_in old) (core_in new))
+  pub few : IfOk result (λ b. IsFewBehind part words entries old.levels.parts left → IsFewBehind part words entries new.levels.parts b.left)

@@ -10,7 +10,7 @@ ghost use Rattle.disk_objects.specs.Stays.{IsRead, StaysOnWork};
 ghost use Rattle.core_view.specs.Kept.{IsBacked};
 ghost use Rattle.leaf_lambda.specs.Parts.{core_of, IsParts};
 ghost use Rattle.leaf_lambda.specs.Records.{IsCopy};
-ghost use Rattle.counted_core.specs.Levels.{Stored, count_in};
+ghost use Rattle.core_view.specs.Levels.{Stored, count_in};
 ghost use Rattle.delta_counts.specs.At.{IsStoredAt};
 ghost use Rattle.purger.specs.Counts.{stored_as};
 ghost use Rattle.purger.specs.Purge.{IsReadFault, IsReadDamage, IsEvictFault};

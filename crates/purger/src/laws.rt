@@ -4,9 +4,9 @@ ghost use Rattle.long_names.specs.declared.value.Value.{Value};
 ghost use Rattle.core_view.specs.Core.{Core};
 ghost use Rattle.core_view.specs.Kept.{IsCore, Keeps, Stays};
 ghost use Rattle.leaf_lambda.specs.Parts.{IsNaming, IsWithin};
-ghost use Rattle.counted_core.specs.Levels.{Levels, records_of};
-ghost use Rattle.counted_core.specs.Counted.{IsSound};
-ghost use Rattle.counted_core.specs.Steps.{IsUncounted, with_core};
+ghost use Rattle.core_view.specs.Levels.{Levels, records_of};
+ghost use Rattle.core_view.specs.Counted.{IsSound};
+ghost use Rattle.core_view.specs.LevelSteps.{IsUncounted, with_core};
 
 /// A call on one object by which names gain entries only with a reference leaves counts, and each of those names is used. So does a call by
 /// which no name gains or loses its entry.

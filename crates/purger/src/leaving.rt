@@ -18,8 +18,8 @@ impl<'h, H: Host> Pager<'h, H> {
     ghost use Rattle.core_view.specs.Held.{object_at};
     ghost use Rattle.core_view.specs.Room.{is_among};
     ghost use Rattle.core_view.specs.Steps.{written};
-    ghost use Rattle.counted_core.specs.Levels.{Levels, records_of};
-    ghost use Rattle.counted_core.specs.Counted.{IsSound};
+    ghost use Rattle.core_view.specs.Levels.{Levels, records_of};
+    ghost use Rattle.core_view.specs.Counted.{IsSound};
     ghost use Rattle.delta_counts.specs.Effects.{HasSound, StandsFor};
     ghost use Rattle.purger.specs.Leaving.{Evicts, Reads, Unmarks};
     ghost use Rattle.purger.specs.Marks.{KeepsMarks};

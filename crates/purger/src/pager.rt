@@ -30,9 +30,9 @@ impl<'h, H: Host> Pager<'h, H> {
     ghost use Rattle.core_segment.specs.Segment.{free_of, largest_of};
     ghost use Rattle.core_view.specs.Purge.{HasNoIdle};
     ghost use Rattle.core_view.specs.Room.{is_among};
-    ghost use Rattle.purger.specs.Pager.{core_in, Clears, IsReady, MakesRoom, Moves, Purges};
+    ghost use Rattle.purger.specs.Pager.{core_in, Clears, IsReady, MakesRoom, Moves, Passes, Purges};
     ghost use Rattle.purger.specs.Purge.{HasRoom, KeepsBodies};
-    ghost use Rattle.purger.specs.Rounds.{HasCounted, IsFewBehind, KeepsAllBut, LostInNeed, StopsInTime};
+    ghost use Rattle.purger.specs.Rounds.{IsFewBehind, KeepsAllBut, LostInNeed, StopsInTime};
     ghost use Rattle.purger.specs.declared.room.TheConstants.{ROUND_PARTS};
 
     /// Moves bodies down until all free words are one chunk, or none.
@@ -128,13 +128,10 @@ impl<'h, H: Host> Pager<'h, H> {
         requires ready { IsReady self.old }
         requires short { is_short s.0 ≡ true }
         requires within { s.0 < bound_of self.old.levels.parts.names.table }
-        ensures purges { Purges self.old self.new result }
-        ensures one { KeepsAllBut s.0 (core_in self.old) (core_in self.new) }
+        ensures passes { Passes s.0 part words entries behind.left self.old self.new result }
         ensures stops { OnOk result (KeepsBodies (core_in self.old) (core_in self.new) ⊎ (HasRoom self.old.levels.parts words entries → ⊥)) }
         ensures gone { OnOk result (HasRoom self.new.levels.parts words entries
             ⊎ ((at : ℕ) → place_of ((core_in self.new).entries s.0).state ≡ Some at → is_among self.old.pinned.a self.old.pinned.b self.old.pinned.d s.0 ≡ true)) }
-        ensures behind { IfOk result (λ b. HasCounted behind.left b.left (core_in self.old) (core_in self.new)) }
-        ensures few { IfOk result (λ b. IsFewBehind part words entries self.old.levels.parts behind.left → IsFewBehind part words entries self.new.levels.parts b.left) }
         ensures needless { HasRoom self.old.levels.parts words entries → (result ≡ Ok behind) × (self.new ≡ self.old) }
     {
         if has_room(&self.levels.parts, words, entries) {
@@ -171,10 +168,7 @@ impl<'h, H: Host> Pager<'h, H> {
         requires ready { IsReady self.old }
         requires short { is_short s.0 ≡ true }
         requires within { s.0 < bound_of self.old.levels.parts.names.table }
-        ensures purges { Purges self.old self.new result }
-        ensures one { KeepsAllBut s.0 (core_in self.old) (core_in self.new) }
-        ensures behind { IfOk result (λ b. HasCounted behind.left b.left (core_in self.old) (core_in self.new)) }
-        ensures few { IfOk result (λ b. IsFewBehind part words entries self.old.levels.parts behind.left → IsFewBehind part words entries self.new.levels.parts b.left) }
+        ensures passes { Passes s.0 part words entries behind.left self.old self.new result }
     {
         let levels = &self.levels;
         if !may_go(&levels.parts, s, &self.pinned) {

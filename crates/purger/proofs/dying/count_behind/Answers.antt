@@ -1,5 +1,5 @@
 use Rattle.std.proofs.Common.{sym, ap}
-use Rattle.counted_core.specs.Levels.{count_in}
+use Rattle.core_view.specs.Levels.{count_in}
 use Rattle.purger.proofs.dying.count_behind.Goals as goal
 
 pub returns-then-fresh-clause-count : goal.returns-then-fresh-clause-count

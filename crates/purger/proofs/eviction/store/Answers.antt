@@ -4,7 +4,7 @@ use Rattle.loom_host.proofs.WorkLaws.{exits}
 use Rattle.object_record.specs.Buffer.{raw_of}
 use Rattle.disk_objects.specs.Function.{disk_of}
 use Rattle.core_view.specs.Held.{Disk}
-use Rattle.counted_core.specs.Levels.{count_in}
+use Rattle.core_view.specs.Levels.{count_in}
 use Rattle.delta_counts.proofs.LowerLaws.{ok-map}
 use Rattle.purger.specs.Purge.{IsEvictFault}
 use Rattle.purger.proofs.EvictLaws.{read-same, put-fault-if}

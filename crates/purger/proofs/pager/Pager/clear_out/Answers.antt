@@ -32,7 +32,7 @@ pub evict_more-requires-clause-within : goal.evict_more-requires-clause-within
 evict_more-requires-clause-within g c = let low = c.loop-i-test.true in let all = c.used_end-i-end.ensures.most in let same = same-entries c.args.self.now c.loop-i.self c.loop-i.invariant.leaves in omega arith
 
 pub returns-in-Err-clause-clears : goal.returns-in-Err-clause-clears
-returns-in-Err-clause-clears g c = clears-disk _ _ _ (purges-then c.args.self.now c.loop-i.self c.evict_more.new.self (Err _) c.loop-i.invariant.leaves c.loop-i.invariant.keeps c.in-Err.ensures.purges)
+returns-in-Err-clause-clears g c = clears-disk _ _ _ (purges-then c.args.self.now c.loop-i.self c.evict_more.new.self (Err _) c.loop-i.invariant.leaves c.loop-i.invariant.keeps c.in-Err.ensures.passes.purges)
 
 pub loop-i-preserved : goal.loop-i-preserved
 loop-i-preserved g c =
@@ -44,12 +44,12 @@ loop-i-preserved g c =
     let e = c.evict_more.ensures in
     let r = c.in-Ok.ensures in
     record {
-      leaves = spares-trans a b n i.leaves e.purges.leaves;
-      keeps = preserves-trans a b n i.keeps r.purges.keeps;
-      gone = ⊎_elim (λ has. inl (subst (λ (p : Pager _ _). HasRoom p.levels.parts c.args.words c.args.entries) (sym (e.needless has).1) has)) (λ before. ⊎_elim (λ has. inl has) (λ here. inr (none-more b n c.loop-i.i e.purges.leaves before here)) r.gone) i.gone;
-      through = through-more part c.args.words c.args.entries c.loop-i.i c.loop-i.behind.left c.in-Ok.then.left (2 * c.loop-i.i + 2) a.levels.parts b.levels.parts n.levels.parts i.through b.levels.whole.parts b.levels.whole.tight i.leaves.size i.keeps.only i.keeps.less i.keeps.minds r.stops e.one
-          n.levels.whole.parts (λ t. e.purges.leaves.purged.same_outside t ∙ i.leaves.purged.same_outside t) (only-trans (core_in a) (core_in b) (core_in n) i.keeps.only r.purges.keeps.only) r.purges.keeps.less r.behind
-          (subst (λ (k : ℕ). IsFewBehind k c.args.words c.args.entries b.levels.parts c.loop-i.behind.left → IsFewBehind k c.args.words c.args.entries n.levels.parts c.in-Ok.then.left) (ap (λ (k : ℕ). k / ROUND_PARTS) c.entries-part.ensures.entries) r.few);
+      leaves = spares-trans a b n i.leaves e.passes.purges.leaves;
+      keeps = preserves-trans a b n i.keeps r.passes.purges.keeps;
+      gone = ⊎_elim (λ has. inl (subst (λ (p : Pager _ _). HasRoom p.levels.parts c.args.words c.args.entries) (sym (e.needless has).1) has)) (λ before. ⊎_elim (λ has. inl has) (λ here. inr (none-more b n c.loop-i.i e.passes.purges.leaves before here)) r.gone) i.gone;
+      through = through-more part c.args.words c.args.entries c.loop-i.i c.loop-i.behind.left c.in-Ok.then.left (2 * c.loop-i.i + 2) a.levels.parts b.levels.parts n.levels.parts i.through b.levels.whole.parts b.levels.whole.tight i.leaves.size i.keeps.only i.keeps.less i.keeps.minds r.stops e.passes.one
+          n.levels.whole.parts (λ t. e.passes.purges.leaves.purged.same_outside t ∙ i.leaves.purged.same_outside t) (only-trans (core_in a) (core_in b) (core_in n) i.keeps.only r.passes.purges.keeps.only) r.passes.purges.keeps.less r.passes.behind
+          (subst (λ (k : ℕ). IsFewBehind k c.args.words c.args.entries b.levels.parts c.loop-i.behind.left → IsFewBehind k c.args.words c.args.entries n.levels.parts c.in-Ok.then.left) (ap (λ (k : ℕ). k / ROUND_PARTS) c.entries-part.ensures.entries) r.passes.few);
     }
 
 pub last_room-requires-clause-ready : goal.last_room-requires-clause-ready

@@ -3,7 +3,7 @@ use Rattle.object_table.specs.declared.entry.Entry.{Entry}
 use Rattle.object_table.specs.Table.{entry_at}
 use Rattle.core_view.proofs.Core.{placed-used}
 use Rattle.leaf_lambda.specs.Parts.{core_of}
-use Rattle.counted_core.specs.Levels.{records_of}
+use Rattle.core_view.specs.Levels.{records_of}
 use Rattle.delta_counts.specs.Effects.{Keeps, Same}
 use Rattle.delta_counts.specs.Shorts.{AreAtHand, short_value}
 use Rattle.purger.specs.Pager.{core_in}

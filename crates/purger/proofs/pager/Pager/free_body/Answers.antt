@@ -2,7 +2,7 @@ use Rattle.std.proofs.Common.{refl, sym, ap, arith}
 use Rattle.loom_host.specs.declared.outside.Role.TheVariants.{Work}
 use Rattle.object_record.specs.Buffer.{raw_of}
 use Rattle.object_record.specs.Objects.{object_in}
-use Rattle.counted_core.specs.Counted.{words_of}
+use Rattle.core_view.specs.Counted.{words_of}
 use Rattle.purger.specs.Pager.{core_in}
 use Rattle.purger.proofs.DrainLaws.{body-values, words-read-if}
 use Rattle.purger.proofs.DyingLaws.{frees-behind, may-read, reads-body, took-frees, took-object, took-sound}

@@ -42,22 +42,21 @@ loop-i-preserved g c =
     let n = c.pass.new.self in
     let part = entries_of a.levels.parts.names.table / ROUND_PARTS in
     let i = c.loop-i.invariant in
-    let e = c.pass.ensures in
-    let r = c.in_ok-behind.ensures in
+    let r = c.in_ok-behind.ensures.passes in
     let p = purges-hand b n c.next_entry-s.new.hand (Ok _) r.purges in
     let all = ap (λ (n : ℕ). n / ROUND_PARTS) c.entries-part.ensures.entries in
     record {
       leaves = spares-trans a b n i.leaves p.leaves;
       keeps = preserves-trans a b n i.keeps p.keeps;
       round = round-more part c.args.words c.args.entries c.loop-i.i c.loop-i.behind.left c.in_ok-behind.behind.left c.next_entry-s.result.0 a.levels.parts b.levels.parts n.levels.parts i.round b.levels.whole.parts b.levels.whole.tight i.leaves.size i.keeps.only i.keeps.less i.keeps.minds
-          (goes-on c.loop-i.i c.round_of-round.result part b.levels.parts c.args.words c.args.entries (let least = c.round_of-round.ensures in omega (arith, least, all)) (c.has_turned.ensures.goes c.if-has_turned.false)) e.one
+          (goes-on c.loop-i.i c.round_of-round.result part b.levels.parts c.args.words c.args.entries (let least = c.round_of-round.ensures in omega (arith, least, all)) (c.has_turned.ensures.goes c.if-has_turned.false)) r.one
           n.levels.whole.parts (λ t. p.leaves.purged.same_outside t ∙ i.leaves.purged.same_outside t) (only-trans (core_in a) (core_in b) (core_in n) i.keeps.only p.keeps.only) p.keeps.less r.behind
           (subst (λ (k : ℕ). IsFewBehind k c.args.words c.args.entries b.levels.parts c.loop-i.behind.left → IsFewBehind k c.args.words c.args.entries n.levels.parts c.in_ok-behind.behind.left) all r.few);
     }
 
 pub returns-in_err-behind-clause-purges : goal.returns-in_err-behind-clause-purges
 returns-in_err-behind-clause-purges g c = purges-exit _ _ c.from_residual.result c.in_err-behind.field-0.0 c.from_residual.ensures.1
-    (purges-then c.args.self.now c.loop-i.self c.pass.new.self (Err _) c.loop-i.invariant.leaves c.loop-i.invariant.keeps (purges-hand c.loop-i.self c.pass.new.self c.next_entry-s.new.hand (Err _) c.in_err-behind.ensures.purges))
+    (purges-then c.args.self.now c.loop-i.self c.pass.new.self (Err _) c.loop-i.invariant.leaves c.loop-i.invariant.keeps (purges-hand c.loop-i.self c.pass.new.self c.next_entry-s.new.hand (Err _) c.in_err-behind.ensures.passes.purges))
 
 pub returns-then-has_turned-clause-purges : goal.returns-then-has_turned-clause-purges
 returns-then-has_turned-clause-purges g c = purges-done c.args.self.now c.loop-i.self _ c.loop-i.invariant.leaves c.loop-i.invariant.keeps
