@@ -1,5 +1,6 @@
 pub mod BaseLaws
 pub mod Callers
+pub mod ClearLaws
 pub mod CountDownLaws
 pub mod Entries
 pub mod LaterLaws

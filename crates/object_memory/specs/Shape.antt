@@ -1,12 +1,13 @@
 -- What a caller knows of the object that a register names, and what reads leave.
-use Rattle.std.specs.Prelude.{◌≡◌, ◌↔◌, ℕ, ◌+◌, ◌-◌, ◌*◌, ◌==◌, nat_le, Bool, false, List, length, slice_get, Option, Some, None, Result, IsTrue, IsSome, OnOk, OnErr, if◌then◌else◌}
-use Rattle.std.specs.Option.{option_map}
+use Rattle.std.specs.Prelude.{◌≡◌, ◌↔◌, ℕ, ℤ, ◌+◌, ◌-◌, ◌*◌, ◌==◌, nat_le, Bool, false, List, length, slice_get, Option, Some, None, Result, IsTrue, IsSome, OnOk, OnErr, if◌then◌else◌}
+use Rattle.std.specs.Option.{option_map, option_and_then}
 use Rattle.std.specs.List.{list_any}
+use Rattle.long_names.specs.declared.value.Value.{Value}
 use Rattle.long_names.specs.declared.object.Kind.{Kind}
 use Rattle.long_names.specs.declared.object.Kind.TheVariants as kind
 use Rattle.long_names.specs.declared.object.Body.{Body}
 use Rattle.long_names.specs.declared.object.Body.TheVariants.{Pointers, Words, Bytes, Method}
-use Rattle.long_names.specs.Objects.{kind_of, len_of, pointers_of, literals_of, words_of, bytes_of}
+use Rattle.long_names.specs.Objects.{kind_of, len_of, int_of, pointers_of, literals_of, words_of, bytes_of}
 use Rattle.long_names.specs.Thin.{IsThinner}
 use Rattle.long_names.specs.State.{IsRef, part_at, HasPart}
 use Rattle.long_names.specs.Access.{KindOf}
@@ -32,6 +33,10 @@ byte_count body = option_map length (bytes_of body)
 
 abbrev pub literals_count : Body → Option ℕ
 literals_count body = option_map length (literals_of body)
+
+-- the number that value i of an object of pointers is
+abbrev pub number_in : ℕ → Body → Option ℤ
+number_in i body = option_and_then int_of (option_and_then (λ (values : List Value). slice_get values i) (pointers_of body))
 
 -- the byte of a method's code at a place that counts from its header on, which takes two bytes, as each literal does
 abbrev pub code_at : ℕ → Body → Option ℕ

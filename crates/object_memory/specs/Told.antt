@@ -1,12 +1,13 @@
 -- What a memory tells of itself.
-use Rattle.std.specs.Prelude.{◌≡◌, ℕ, ◌||◌, Bool, true, List, Option, IsTrue}
+use Rattle.std.specs.Prelude.{◌≡◌, ℕ, pos, ◌||◌, ◌&&◌, nat_le, nat_lt, Bool, true, List, Option, IsTrue, if◌then◌else◌}
 use Rattle.long_names.specs.declared.value.Value.{Value}
+use Rattle.long_names.specs.declared.value.Value.TheVariants.{Int}
 use Rattle.long_names.specs.Objects.{is_ref}
 use Rattle.long_names.specs.Heap.{Heap, Has}
 use Rattle.long_names.specs.Kept.{any_below}
 use Rattle.long_names.specs.Thin.{IsWhole}
 use Rattle.long_names.specs.State.{State}
-use Rattle.long_names.specs.declared.limits.TheConstants.{REGISTERS, SLOTS}
+use Rattle.long_names.specs.declared.limits.TheConstants.{MACHINE_REGISTERS, REGISTERS, SLOTS}
 use Rattle.long_names.specs.Need.{Row, words_of_row, entries_of_row, is_pinned}
 use Rattle.object_memory.specs.declared.fault.Need.{Need}
 use Rattle.object_memory.specs.declared.fault.MemFault.{MemFault}
@@ -59,6 +60,10 @@ has_slot slots n = any_below SLOTS (λ i. is_pinned n (slots i))
 -- what a row needs of a core
 abbrev pub need_of : Heap → Row → Need
 need_of h r = record { object = r.object; words = words_of_row h r; entries = entries_of_row h r }
+
+-- the registers, of which the scratch ones hold 0
+abbrev pub scratch_cleared : (ℕ → Value) → ℕ → Value
+scratch_cleared regs r = if nat_le MACHINE_REGISTERS r && nat_lt r REGISTERS then Int (pos 0) else regs r
 
 -- the names in registers and slots
 abbrev pub is_root : Told → ℕ → Bool

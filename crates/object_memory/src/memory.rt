@@ -3,7 +3,7 @@ ghost use Rattle.std.specs.Prelude.{◌≡◌, ◌/◌, ◌+◌, ◌<◌, ◌↔
 
 use crate::fault::MemFault;
 use crate::reg::Reg;
-use long_names::{Kind, Name};
+use long_names::{Kind, MACHINE_REGISTERS, Name, REGISTERS};
 
 /// A memory of objects under long names, which are reached through 24 registers and 3 slots for pinned objects. What it keeps of
 /// its own is `sound`; what it stands for is `told`.
@@ -16,8 +16,8 @@ pub trait ObjectMemory {
     ghost use Rattle.long_names.specs.Access.{Known, Class, KindOf, Length, Header, Field, SetField, Word, SetWord, Byte, SetByte, ReadWords, WriteWords, ReadBytes, Make, Pin, Mark, Say, Swap, Nothing, OfKind, OfNumber, OfSigned, OfRun};
     ghost use Rattle.long_names.specs.State.{set_register, set_slot, name_at, part_at, IsRef};
     ghost use Rattle.long_names.specs.declared.value.Value.TheVariants.{Int, Ref};
-    ghost use Rattle.object_memory.specs.Told.{Told, has_slot};
-    ghost use Rattle.object_memory.specs.Shape.{code_at, field_count, IsPartAt};
+    ghost use Rattle.object_memory.specs.Told.{Told, has_slot, scratch_cleared};
+    ghost use Rattle.object_memory.specs.Shape.{code_at, field_count, number_in, IsPartAt};
     ghost use Rattle.object_memory.specs.Contract.{MayDo, Accessed, Called, Follows, IsLater, Settles, Thins, is_marked, IsFound, IsUnknown, IsPut};
     ghost use Rattle.object_memory.specs.Fit.{MayCall, StaysCallable, KeepsCallable};
 
@@ -48,6 +48,18 @@ pub trait ObjectMemory {
         requires { sound self.old }
         ensures told { told self.new ≡ record (told self.old) { regs = set_register (told self.old).regs to ((told self.old).regs from) } }
         ensures fit { KeepsCallable sound told lender outside self.old self.new };
+
+    /// The scratch registers, from 10 on, hold 0: what so many calls of `int` do.
+    fn clear_scratch(&mut self)
+        requires sound { sound self.old }
+        ensures regs { (r : ℕ) → (told self.new).regs r ≡ scratch_cleared (told self.old).regs r }
+        ensures rest { told self.new ≡ record (told self.old) { regs = (told self.new).regs } }
+        ensures fit { KeepsCallable sound told lender outside self.old self.new }
+    {
+        for r in MACHINE_REGISTERS as u8..REGISTERS as u8 {
+            self.int(Reg::new(r), 0);
+        }
+    }
 
     /// The register holds the name of an object that is known, or that a word of the heap holds.
     fn known(&mut self, to: Reg, name: Name) -> Result<(), MemFault>
@@ -135,6 +147,17 @@ pub trait ObjectMemory {
         requires may { MayDo (told self.old) (Field to of i) }
         ensures access { Accessed (told self.old) (told self.new) (Field to of i) (λ _. Nothing) result }
         ensures fit { StaysCallable sound told lender outside self.old self.new result };
+
+    /// The number that value i of an object of pointers is, where the object is at hand. No object comes in for it, and no register is
+    /// filled. None says nothing.
+    fn number_at(&self, of: Reg, i: u32) -> Option<i16>
+        requires { sound self.now }
+        ensures number { IfSome result (λ n. IsPartAt (told self.now) of (number_in i) (Some n)) }
+        ensures range { IfSome result IsSmallInteger }
+    {
+        // whoever wants it asks `field` and `as_int`
+        None
+    }
 
     /// Stores value or literal i.
     fn set_field(&mut self, of: Reg, i: u32, from: Reg) -> Result<(), MemFault>
