@@ -2,9 +2,9 @@
 use Rattle.std.proofs.Common.{◌≡◌, ℕ, ◌+◌, ◌-◌, ◌*◌, ◌/◌, ◌%◌, ◌^◌, ◌<◌, ◌≤◌, min, max, [], ◌∷◌, refl, sym, ap, ◌∙◌, arith, ⊎_elim, cond, ltb}
 use Rattle.std.specs.Int.{bit_at, w16}
 use Rattle.std.specs.Int.RustNames.{bit_or, bit_xor, bit_and}
-use Rattle.std.proofs.lemmas.Nat.{shr-shr, or_shifted, and_mask}
+use Rattle.std.proofs.lemmas.Nat.{shr-shr, pow_pos}
 use Rattle.std.proofs.lemmas.Bool.{cases_lt}
-use Rattle.std.proofs.lemmas.Nat.Bits.{bit_at_and, bit_at_or, bit_at_xor, bit_at_not, bit_at_ones, bit_at-zero, bit_at-lt, bit_at_cat_low, bit_at_cat_high}
+use Rattle.std.proofs.lemmas.Nat.Bits.{bit_at_and, bit_at_or, bit_at_xor, bit_at_not, bit_at_ones, bit_at_above, bit_at-zero, bit_at-lt, bit_at_cat_low, bit_at_cat_high}
 use Rattle.blue_model.specs.Forms.{left_bit, bit}
 
 pub left_bit-and : (a b j : ℕ) → left_bit (bit_and a b) j ≡ min (left_bit a j) (left_bit b j)
@@ -56,29 +56,50 @@ bit-second a b n h l =
     let r : n % 16 ≡ n - 16 = omega arith in
     rw (q, r) refl
 
--- the word that a shift cuts out of two side by side
-pub left_bit-cut : (a b t j : ℕ) → b < 65536 → t < 16 → j < 16 → left_bit ((a * 65536 + b) / 2 ^ (16 - t) % 65536) j ≡ bit (a ∷ b ∷ []) (t + j)
+-- the bits of a word that is shifted left, and of one that is shifted right by what is left to 16
+shl-inside : (a t j : ℕ) → t + j < 16 → left_bit (a * 2 ^ t % 65536) j ≡ left_bit a (t + j)
 unfolding left_bit
+shl-inside a t j h =
+    let none : a * 2 ^ t ≡ a * 2 ^ t + 0 = omega arith in
+    bit_at-mod (a * 2 ^ t) (15 - j) (omega arith)
+    ∙ ap (λ n. bit_at n (15 - j)) none
+    ∙ bit_at_cat_high a t 0 (15 - j) (pow_pos t) (omega arith)
+    ∙ ap (bit_at a) (let e : 15 - j - t ≡ 15 - (t + j) = omega arith in e)
+
+shl-outside : (a t j : ℕ) → j < 16 → 16 ≤ t + j → left_bit (a * 2 ^ t % 65536) j ≡ 0
+unfolding left_bit
+shl-outside a t j l h =
+    let none : a * 2 ^ t ≡ a * 2 ^ t + 0 = omega arith in
+    bit_at-mod (a * 2 ^ t) (15 - j) (omega arith)
+    ∙ ap (λ n. bit_at n (15 - j)) none
+    ∙ bit_at_cat_low a t 0 (15 - j) (omega arith)
+    ∙ bit_at-zero (15 - j)
+
+shr-at : (b t j : ℕ) → left_bit (b / 2 / 2 ^ (15 - t)) j ≡ bit_at b (1 + (15 - t) + (15 - j))
+unfolding left_bit
+shr-at b t j =
+    ap (λ n. bit_at n (15 - j)) (shr-shr b 1 (15 - t))
+    ∙ ap (λ q. q % 2) (shr-shr b (1 + (15 - t)) (15 - j))
+
+shr-outside : (b t j : ℕ) → b < 65536 → t < 16 → t + j < 16 → left_bit (b / 2 / 2 ^ (15 - t)) j ≡ 0
+shr-outside b t j fits ht h = shr-at b t j ∙ bit_at_above b 16 (1 + (15 - t) + (15 - j)) fits (omega arith)
+
+shr-inside : (b t j : ℕ) → t < 16 → j < 16 → 16 ≤ t + j → left_bit (b / 2 / 2 ^ (15 - t)) j ≡ left_bit b (t + j - 16)
+unfolding left_bit
+shr-inside b t j ht hj h = shr-at b t j ∙ ap (bit_at b) (let e : 1 + (15 - t) + (15 - j) ≡ 15 - (t + j - 16) = omega arith in e)
+
+-- the word that two shifts cut out of two words side by side
+pub left_bit-cut : (a b t j : ℕ) → b < 65536 → t < 16 → j < 16 → left_bit (bit_or (a * 2 ^ t % 65536) (b / 2 / 2 ^ (15 - t))) j ≡ bit (a ∷ b ∷ []) (t + j)
 left_bit-cut a b t j fits ht hj =
-    bit_at-mod ((a * 65536 + b) / 2 ^ (16 - t)) (15 - j) (omega arith)
-    ∙ ap (λ q. q % 2) (shr-shr (a * 65536 + b) (16 - t) (15 - j))
+    left_bit-or (a * 2 ^ t % 65536) (b / 2 / 2 ^ (15 - t)) j
     ∙ ⊎_elim
     (λ (low : t + j < 16).
-    bit_at_cat_high a 16 b (16 - t + (15 - j)) fits (omega arith)
-    ∙ ap (bit_at a) (let e : 16 - t + (15 - j) - 16 ≡ 15 - (t + j) = omega arith in e)
-    ∙ sym (bit-first a b (t + j) low))
+    rw (shl-inside a t j low, shr-outside b t j fits ht low)
+    (let e : max (left_bit a (t + j)) 0 ≡ left_bit a (t + j) = omega arith in e ∙ sym (bit-first a b (t + j) low)))
     (λ (high : 16 ≤ t + j).
-    bit_at_cat_low a 16 b (16 - t + (15 - j)) (omega arith)
-    ∙ ap (bit_at b) (let e : 16 - t + (15 - j) ≡ 15 - (t + j - 16) = omega arith in e)
-    ∙ sym (bit-second a b (t + j) high (omega arith)))
+    rw (shl-outside a t j hj high, shr-inside b t j ht hj high)
+    (let e : max 0 (left_bit b (t + j - 16)) ≡ left_bit b (t + j - 16) = omega arith in e ∙ sym (bit-second a b (t + j) high (omega arith))))
     (cases_lt (t + j) 16)
-
--- the cut as the code computes it
-pub cut_word : (a b t : ℕ) → a < 65536 → b < 65536 → bit_and (bit_or (a * 65536 % 4294967296) b / 2 ^ (16 - t)) 65535 ≡ (a * 65536 + b) / 2 ^ (16 - t) % 65536
-cut_word a b t ha hb =
-    and_mask (bit_or (a * 65536 % 4294967296) b / 2 ^ (16 - t)) 16
-    ∙ ap (λ m. m / 2 ^ (16 - t) % 65536)
-    (ap (λ m. bit_or m b) (let e : a * 65536 % 4294967296 ≡ a * 65536 = omega arith in e) ∙ or_shifted a 16 b hb)
 
 -- a mask chooses, where it is 0 or 1
 pub chosen : (m n o : ℕ) → m < 2 → n < 2 → o < 2 → max (min n m) (min o (1 - m)) ≡ cond (ltb 0 m) n o

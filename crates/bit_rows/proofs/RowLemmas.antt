@@ -1,16 +1,14 @@
 -- Bits of lists of words, and the steps of a row.
 -- One bit number for a whole list of words keeps shifts, masks and rows linear.
-use Rattle.std.proofs.Common.{◌≡◌, ◌≢◌, ℕ, ◌+◌, ◌-◌, ◌*◌, ◌/◌, ◌%◌, ◌^◌, ◌<◌, ◌≤◌, min, List, [], ◌∷◌, get_or, set, length, refl, sym, ap, ◌∙◌, arith, ⊎_elim, cond, Bool, true, false, get_or-set_other, get_or-set_same}
-use Rattle.std.specs.Int.RustNames.{bit_and}
+use Rattle.std.proofs.Common.{◌≡◌, ◌≢◌, ℕ, ◌+◌, ◌-◌, ◌*◌, ◌/◌, ◌%◌, ◌^◌, ◌<◌, ◌≤◌, min, List, [], ◌∷◌, get_or, set, length, refl, sym, ap, ◌∙◌, arith, ◌⊎◌, inl, inr, ⊎_elim, cond, true, false, get_or-set_other, get_or-set_same}
 use Rattle.std.proofs.Math.Nat.{pow-le-pow_right}
 use Rattle.std.proofs.lemmas.Nat.{one_shl}
 use Rattle.std.proofs.lemmas.Nat.Bits.{bit_at_mask_inside, bit_at_mask_below, bit_at_mask_above}
-use Rattle.std.proofs.lemmas.Bool.{cases_lt}
+use Rattle.std.proofs.lemmas.Bool.{cases_lt, cases_eq}
 use Rattle.std.proofs.lemmas.Bool.Decides.{nat_tests}
 use Rattle.blue_model.specs.Forms.{left_bit, bit}
-use Rattle.blue_model.specs.BitBlt.{rule_bit}
-use Rattle.bit_rows.specs.Rows.{within, row_bit}
-use Rattle.bit_rows.proofs.BitLemmas.{left_bit-and, bit-first, bit-second}
+use Rattle.bit_rows.specs.Rows.{within}
+use Rattle.bit_rows.proofs.BitLemmas.{bit-first, bit-second}
 
 pub within-inside : (f t n : ℕ) → f ≤ n → n < t → within f t n ≡ true
 within-inside f t n h l = grind (arith, nat_tests)
@@ -101,45 +99,71 @@ bit-set_same xs i w n h e =
     ∙ ap (λ k. left_bit (get_or (set xs i w) k 0) (n % 16)) e
     ∙ ap (λ x. left_bit x (n % 16)) (get_or-set_same xs i w 0 h)
 
-same_choice : (rule : ℕ) (a b : Bool) (x x' y y' : ℕ) → a ≡ b → x ≡ x' → y ≡ y' → cond a (rule_bit rule x y) y ≡ cond b (rule_bit rule x' y') y'
-same_choice rule a b x x' y y' p q r = cc
+-- ---- the steps of a row
 
--- the word that the code makes has the row's bits
-pub word-row : (rule s d low high w : ℕ) (row source : List ℕ) (i skip halftone from to j : ℕ) → j < 16
-    → low ≡ min (from - 16 * i) 16 → high ≡ min (to - 16 * i) 16 → d ≡ get_or row i 0
-    → left_bit s j ≡ bit (get_or source (skip / 16 + i) 0 ∷ get_or source (skip / 16 + i + 1) 0 ∷ []) (skip % 16 + j)
-    → left_bit w j ≡ cond (within low high j) (rule_bit rule (left_bit (bit_and s halftone) j) (left_bit d j)) (left_bit d j)
-    → left_bit w j ≡ row_bit rule source skip halftone from to row (16 * i + j)
-unfolding row_bit
-word-row rule s d low high w row source i skip halftone from to j h el eh ed es ew =
-    let place : 16 * (skip / 16 + i) + (skip % 16 + j) ≡ skip + (16 * i + j) = omega arith in
-    let column : (16 * i + j) % 16 ≡ j = omega arith in
-    ew ∙ same_choice rule (within low high j) (within from to (16 * i + j))
-    (left_bit (bit_and s halftone) j) (min (bit source (skip + (16 * i + j))) (left_bit halftone ((16 * i + j) % 16)))
-    (left_bit d j) (bit row (16 * i + j))
-    (ap (λ l. within l high j) el ∙ ap (λ u. within (min (from - 16 * i) 16) u j) eh ∙ within-word from to i j h)
-    (left_bit-and s halftone j
-    ∙ ap (λ b. min b (left_bit halftone j)) (es ∙ bit-pair source (skip / 16 + i) (skip % 16 + j) (omega arith) ∙ ap (bit source) place)
-    ∙ ap (λ c. min (bit source (skip + (16 * i + j))) (left_bit halftone c)) (sym column))
-    (ap (λ x. left_bit x j) ed ∙ sym (bit-word row i j h))
-
--- a row's bit depends on one old bit
-pub row_bit-same : (rule : ℕ) (source : List ℕ) (skip halftone from to : ℕ) (row other : List ℕ) (n : ℕ) → bit row n ≡ bit other n
-    → row_bit rule source skip halftone from to row n ≡ row_bit rule source skip halftone from to other n
-unfolding row_bit
-row_bit-same rule source skip halftone from to row other n e =
-    ap (λ b. cond (within from to n) (rule_bit rule (min (bit source (skip + n)) (left_bit halftone (n % 16))) b) b) e
+-- the word cut out of the source has the source's bits
+pub cut-source : (source : List ℕ) (s at i skip skew j : ℕ) → at ≡ skip / 16 → skew ≡ skip % 16 → j < 16
+    → left_bit s j ≡ bit (get_or source (at + i) 0 ∷ get_or source (at + i + 1) 0 ∷ []) (skew + j)
+    → left_bit s j ≡ bit source (skip + (16 * i + j))
+cut-source source s at i skip skew j ha hs h e =
+    let place : 16 * (at + i) + (skew + j) ≡ skip + (16 * i + j) = omega arith in
+    e ∙ bit-pair source (at + i) (skew + j) (omega arith) ∙ ap (bit source) place
 
 -- one more word
-pub bits_more : (F : ℕ → ℕ) (row : List ℕ) (i w : ℕ) → i < length row → ((n : ℕ) → n < 16 * i → bit row n ≡ F n)
-    → ((j : ℕ) → j < 16 → left_bit w j ≡ F (16 * i + j)) → (n : ℕ) → n < 16 * (i + 1) → bit (set row i w) n ≡ F n
-bits_more F row i w h done here n l =
+pub made_more : (V : ℕ → ℕ → ℕ) (row : List ℕ) (first i w : ℕ) → i < length row
+    → ((k j : ℕ) → first ≤ k → k < i → j < 16 → left_bit (get_or row k 0) j ≡ V k j)
+    → ((j : ℕ) → j < 16 → left_bit w j ≡ V i j)
+    → (k j : ℕ) → first ≤ k → k < i + 1 → j < 16 → left_bit (get_or (set row i w) k 0) j ≡ V k j
+made_more V row first i w h done here k j f l b =
     ⊎_elim
-    (λ (before : n < 16 * i).
-    let ne : n / 16 ≢ i = omega arith in
-    bit-set_other row i w n ne ∙ done n before)
-    (λ (now : 16 * i ≤ n).
-    let at : n / 16 ≡ i = omega arith in
-    let place : 16 * i + n % 16 ≡ n = omega arith in
-    bit-set_same row i w n h at ∙ here (n % 16) (omega arith) ∙ ap F place)
-    (cases_lt n (16 * i))
+    (λ (same : k ≡ i). rw same (ap (λ x. left_bit x j) (get_or-set_same row i w 0 h) ∙ here j b))
+    (λ (other : k ≢ i). ap (λ x. left_bit x j) (get_or-set_other row i k w 0 other) ∙ done k j f (omega (arith, l, other)) b)
+    (cases_eq k i)
+
+pub rest_more : (row old : List ℕ) (first i w : ℕ) → first ≤ i
+    → ((k : ℕ) → ((k < first) ⊎ (i ≤ k)) → get_or row k 0 ≡ get_or old k 0)
+    → (k : ℕ) → ((k < first) ⊎ (i + 1 ≤ k)) → get_or (set row i w) k 0 ≡ get_or old k 0
+rest_more row old first i w h rest k (inl below) =
+    let ne : k ≢ i = omega arith in
+    get_or-set_other row i k w 0 ne ∙ rest k (inl below)
+rest_more row old first i w h rest k (inr above) =
+    let ne : k ≢ i = omega arith in
+    get_or-set_other row i k w 0 ne ∙ rest k (inr (omega arith))
+
+pub fits_more : (row : List ℕ) (i w : ℕ) → i < length row → w < 65536 → ((k : ℕ) → get_or row k 0 < 65536) → (k : ℕ) → get_or (set row i w) k 0 < 65536
+fits_more row i w h l fits k =
+    ⊎_elim
+    (λ (same : k ≡ i). rw same (rw (get_or-set_same row i w 0 h) l))
+    (λ (other : k ≢ i). rw (get_or-set_other row i k w 0 other) (fits k))
+    (cases_eq k i)
+
+-- the row after the words were made, and their edges put back
+pub row-done : (V : ℕ → ℕ) (row made old : List ℕ) (first past from to words n : ℕ)
+    → first ≡ from / 16 → past ≡ min (to / 16 + 1) words → n < 16 * words
+    → ((k j : ℕ) → first ≤ k → k < past → j < 16 → left_bit (get_or made k 0) j ≡ V (16 * k + j))
+    → ((k : ℕ) → ((k < first) ⊎ (past ≤ k)) → get_or made k 0 ≡ get_or old k 0)
+    → ((k j : ℕ) → first ≤ k → k < past → j < 16 → left_bit (get_or row k 0) j ≡ cond (within from to (16 * k + j)) (left_bit (get_or made k 0) j) (left_bit (get_or old k 0) j))
+    → ((k : ℕ) → ((k < first) ⊎ (past ≤ k)) → get_or row k 0 ≡ get_or made k 0)
+    → bit row n ≡ cond (within from to n) (V n) (bit old n)
+row-done V row made old first past from to words n hf hp l done rest back stay =
+    let place : 16 * (n / 16) + n % 16 ≡ n = omega arith in
+    let out : (((n / 16) < first) ⊎ (past ≤ n / 16)) → within from to n ≡ false → bit row n ≡ cond (within from to n) (V n) (bit old n) = λ apart no.
+    bit-at row n ∙ ap (λ x. left_bit x (n % 16)) (stay (n / 16) apart ∙ rest (n / 16) apart) ∙ sym (bit-at old n) ∙ sym (rw no refl) in
+    ⊎_elim
+    (λ (below : n / 16 < first). out (inl below) (within-below from to n (omega arith)))
+    (λ (from_first : first ≤ n / 16).
+    ⊎_elim
+    (λ (inside : n / 16 < past).
+    let b : n % 16 < 16 = omega arith in
+    bit-at row n
+    ∙ back (n / 16) (n % 16) from_first inside b
+    ∙ rw (done (n / 16) (n % 16) from_first inside b, place) (ap (cond (within from to n) (V n)) (sym (bit-at old n))))
+    (λ (above : past ≤ n / 16). out (inr above) (within-above from to n (omega arith)))
+    (cases_lt (n / 16) past))
+    (cases_lt (n / 16) first)
+
+-- a row in which no word has a bit to be changed
+pub row-kept : (V : ℕ → ℕ) (old : List ℕ) (first past from to words n : ℕ)
+    → first ≡ from / 16 → past ≡ min (to / 16 + 1) words → past ≤ first → n < 16 * words → from ≤ to
+    → bit old n ≡ cond (within from to n) (V n) (bit old n)
+row-kept V old first past from to words n hf hp none l o = sym (rw (within-below from to n (omega arith)) refl)

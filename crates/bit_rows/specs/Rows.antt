@@ -14,3 +14,10 @@ row_bit rule source skip halftone from to row n =
     if within from to n
     then rule_bit rule (min (bit source (skip + n)) (left_bit halftone (n % 16))) (bit row n)
     else bit row n
+
+-- Bit n of a row after the call, where all source bits are 1: the rule of the halftone's bit and the old bit, from one bit up to another.
+unfoldable pub fill_bit : ℕ → ℕ → ℕ → ℕ → List ℕ → ℕ → ℕ
+fill_bit rule halftone from to row n =
+    if within from to n
+    then rule_bit rule (left_bit halftone (n % 16)) (bit row n)
+    else bit row n

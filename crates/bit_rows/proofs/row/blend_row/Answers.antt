@@ -1,30 +1,27 @@
-use Rattle.std.proofs.Common.{◌≡◌, ◌≢◌, ◌+◌, ◌*◌, ◌<◌, length, ap, sym, ◌∙◌, arith, get_or-set_other, get_or-set_same, ⊎_elim, rules}
-use Rattle.std.proofs.lemmas.Bool.{cases_eq}
-use Rattle.blue_model.specs.Forms.{left_bit}
+use Rattle.std.proofs.Common.{◌≡◌, ◌+◌, ◌*◌, ◌/◌, ◌%◌, min, length, refl, ◌∙◌, arith}
+use Rattle.blue_model.specs.Forms.{left_bit, bit}
+use Rattle.blue_model.specs.BitBlt.{rule_bit}
 use Rattle.bit_rows.specs.Rows.{row_bit}
-use Rattle.bit_rows.proofs.RowLemmas.{bits_more, row_bit-same, bit-word}
+use Rattle.bit_rows.proofs.RowLemmas.{bit-word, row-done, row-kept}
 use Rattle.bit_rows.proofs.row.blend_row.Goals as goal
 
-pub loop-i-preserved : goal.loop-i-preserved
-loop-i-preserved c =
-    let at : c.loop-i.i < length c.loop-i.row = omega arith in
-    record {
-      done =
-          bits_more (row_bit c.args.rule c.args.source.now c.args.skip c.args.halftone c.args.from c.args.to c.args.row.now)
-          c.loop-i.row c.loop-i.i c.row_word.result at c.loop-i.invariant.done
-          (λ j h.
-          c.row_word.ensures j h
-          ∙ row_bit-same c.args.rule c.args.source.now c.args.skip c.args.halftone c.args.from c.args.to c.loop-i.row c.args.row.now (16 * c.loop-i.i + j)
-          (bit-word c.loop-i.row c.loop-i.i j h
-          ∙ ap (λ x. left_bit x j) (c.loop-i.invariant.rest c.loop-i.i (omega arith))
-          ∙ sym (bit-word c.args.row.now c.loop-i.i j h)));
-      rest = λ k h.
-          let ne : k ≢ c.loop-i.i = omega arith in
-          get_or-set_other c.loop-i.row c.loop-i.i k c.row_word.result 0 ne ∙ c.loop-i.invariant.rest k (omega arith);
-      fits = λ k.
-          ⊎_elim
-          (λ (same : k ≡ c.loop-i.i).
-          rw same (rw get_or-set_same (let f : c.row_word.result < 65536 = search rules in f)))
-          (λ (other : k ≢ c.loop-i.i). rw get_or-set_other (c.loop-i.invariant.fits k))
-          (cases_eq k c.loop-i.i);
-    }
+pub returns-then-first-past-clause-bits : goal.returns-then-first-past-clause-bits
+unfolding row_bit
+returns-then-first-past-clause-bits c n l =
+    let old = c.args.row.now in
+    let first = c.args.from / 16 in
+    let past = c.word_past-past.result in
+    row-done (λ n. rule_bit c.args.rule (min (bit c.args.source.now (c.args.skip + n)) (left_bit c.args.halftone (n % 16))) (bit old n)) c.put_back.new.row c.make_words.new.row old first past c.args.from c.args.to (length old) n refl c.word_past-past.ensures l
+    (λ k j f p b.
+    let column : (16 * k + j) % 16 ≡ j = omega arith in
+    c.make_words.ensures.made c.args.rule c.of.ensures k j f p b
+    ∙ rw (column, bit-word old k j b) refl)
+    c.make_words.ensures.rest
+    (c.put_back.ensures.back old refl refl)
+    c.put_back.ensures.rest
+
+pub returns-else-first-past-clause-bits : goal.returns-else-first-past-clause-bits
+unfolding row_bit
+returns-else-first-past-clause-bits c n l =
+    let old = c.args.row.now in
+    row-kept (λ n. rule_bit c.args.rule (min (bit c.args.source.now (c.args.skip + n)) (left_bit c.args.halftone (n % 16))) (bit old n)) old (c.args.from / 16) c.word_past-past.result c.args.from c.args.to (length old) n refl c.word_past-past.ensures (omega arith) l c.requires.ordered
