@@ -113,6 +113,17 @@ down-none t r h =
     let back : t.top ≡ t.bottom - (t.bottom - t.top) = omega arith in
     ap (λ b. b || (within t.top t.bottom r && reads_before t r)) (within-none t.top r) ∙ ap (λ f. within f t.bottom r && reads_before t r) back
 
+-- Without a source no row reads anything before those that it writes, and at first none is done.
+pub never-before : (t : Transfer) (y : ℕ) → t.has_source ≡ false → reads_before t y ≡ false
+unfolding reads_before
+never-before t y none = rw none refl
+
+pub none-down : (t : Transfer) → t.has_source ≡ false → (r : ℕ) → done_down t t.top r ≡ false
+unfolding done_down
+none-down t none r =
+    ap (λ b. b || (within t.top t.bottom r && reads_before t r)) (within-none t.top r)
+    ∙ and-false (within t.top t.bottom r) (reads_before t r) (never-before t r none)
+
 pub down-order : (t : Transfer) (y : ℕ) → reads_before t y ≡ false → InOrder t (done_down t y) y
 unfolding done_down
 down-order t y e r d =

@@ -189,6 +189,11 @@ source_then {old} {mid} {new} {cpu} {r} has s v first second is same f g =
     serves_then (λ _. put_words v second) f
     (words_served (put_words v) first second same (subst (λ w. Serves mid cpu new cpu (put_words w first) r) is g))
 
+-- where there is no source, none is looked at first
+pub none_then : {old new : Told} {cpu : Cpu} {r : Result (Unit {0}) Stop} (has : Bool) (s v : Value) (words : List ℕ) → has ≡ false → IsReady old → Serves old cpu new cpu (put_words v words) r → Serves old cpu new cpu (blit_words has s v words) r
+unfolding blit_words
+none_then {old} {new} {cpu} {r} has s v words lacks ready f = serves_then (λ _. put_words v words) (source_none {cpu = cpu} has s lacks ready) f
+
 written_here : (t : Transfer) (old mid new : Told) (first second : List ℕ) → IsReady mid → Looks [] old mid → (IsTrue old.tells → first ≡ second) → IsWritten t mid new first → IsWritten t old new second
 written_here t old mid new first second ready looks same w = record {
   regs = w.regs ∙ regs_looked old mid looks;

@@ -1,5 +1,5 @@
 -- What a row's buffers hold, and the words of its run after it.
-use Rattle.std.proofs.Common.{map, drop, ◌≡◌, ℕ, ◌+◌, ◌-◌, ◌*◌, ◌/◌, ◌%◌, ◌<◌, ◌≤◌, min, List, ◌++◌, get_or, take, replicate, length, refl, sym, ap, ◌∙◌, arith, ⊎_elim, cond, Bool, true, false, ◌&&◌, Option}
+use Rattle.std.proofs.Common.{map, drop, ◌≡◌, ℕ, ◌+◌, ◌-◌, ◌*◌, ◌/◌, ◌%◌, ◌<◌, ◌≤◌, min, List, ◌++◌, get_or, take, replicate, length, refl, sym, ap, ◌∙◌, arith, ⊎_elim, cond, Bool, true, false, ◌&&◌, Option, None}
 use Rattle.std.proofs.lemmas.Bool.{cases_lt}
 use Rattle.std.proofs.Math.Nat.{mul-le-mul_left}
 use Rattle.std.proofs.lemmas.List.{get_or-append_right, get_or_append_left, get_or-take, get_or-drop, get_or_past, length-take-le, get_or-replicate, length-replicate, length-append, length-take, length-drop}
@@ -10,8 +10,8 @@ use Rattle.std.proofs.lemmas.Nat.{div-mul-add, mod-mul-add}
 use borrow.Rule.Slice.PartMut.{put_mid, post_of}
 use Rattle.blue_model.specs.Forms.{left_bit, bit, number_of}
 use Rattle.blue_model.specs.BitBlt.{rule_bit}
-use Rattle.bit_rows.specs.Rows.{within, row_bit}
-use Rattle.bit_rows.proofs.BitLemmas.{left_bit-ones}
+use Rattle.bit_rows.specs.Rows.{within, row_bit, fill_bit}
+use Rattle.bit_rows.proofs.BitLemmas.{left_bit-ones, left_bit-lt}
 use Rattle.bit_rows.proofs.RowLemmas.{within-inside, within-below, within-above, bit-word, bit-at}
 use Rattle.bit_rows.proofs.NumberLemmas.{word-from_bits}
 use Rattle.long_names.specs.Kept.{any_below}
@@ -27,19 +27,12 @@ put_mid-inside a k i xs ys h l =
     ∙ ap (λ n. get_or (ys ++ post_of a k xs) n 0) e
     ∙ get_or_append_left ys (post_of a k xs) 0 i l
 
--- ones from the first word of a buffer on
-pub bit-ones_first : (out : List ℕ) (k count n : ℕ) → n < 16 * count → bit (put_mid 0 k out (replicate count 65535)) n ≡ 1
-bit-ones_first out k count n h =
-    let len : length {A = ℕ} (replicate count 65535) ≡ count = length-replicate {A = ℕ} count 65535 in
+-- ones
+pub bit-ones : (count n : ℕ) → n < 16 * count → bit (replicate count 65535) n ≡ 1
+bit-ones count n h =
     let q : n / 16 < count = omega arith in
-    let l : n / 16 < length {A = ℕ} (replicate count 65535) = omega (arith, len, q) in
-    let from : 0 ≤ length out = omega arith in
-    let e : n / 16 ≡ 0 + n / 16 = omega arith in
-    bit-at (put_mid 0 k out (replicate count 65535)) n
-    ∙ ap (λ w. left_bit w (n % 16))
-    (ap (λ i. get_or (put_mid 0 k out (replicate count 65535)) i 0) e
-    ∙ put_mid-inside 0 k (n / 16) out (replicate count 65535) from l
-    ∙ get_or-replicate count (n / 16) 65535 0 q)
+    bit-at (replicate count 65535) n
+    ∙ ap (λ w. left_bit w (n % 16)) (get_or-replicate count (n / 16) 65535 0 q)
     ∙ left_bit-ones (n % 16)
 
 -- a row of the source in its buffer, from the second word on
@@ -171,6 +164,37 @@ run-after t source halftone words buffer before after y columns wide top bottom 
     ∙ row (16 * i + j) in_row
     ∙ row_bit-after t source halftone words buffer before y i j columns wide top bottom pixels (read i there) hi hj)
     ∙ sym (ap (λ b. cond b (number_of (λ j. bit_after t source halftone words (16 * (run_start t y + i) + j)) 16) (get_or words (run_start t y + i) 0)) (touched t y i columns wide top bottom hi))
+
+-- A row that is filled is one whose source bits are all 1,
+fill-row : (rule count skip halftone from to : ℕ) (row : List ℕ) (n : ℕ) → skip + n < 16 * count → fill_bit rule halftone from to row n ≡ row_bit rule (replicate count 65535) skip halftone from to row n
+unfolding fill_bit row_bit
+fill-row rule count skip halftone from to row n h =
+    let low = left_bit-lt halftone (n % 16) in
+    let one : left_bit halftone (n % 16) ≡ min 1 (left_bit halftone (n % 16)) = omega (arith, low) in
+    ap (λ b. cond (within from to n) (rule_bit rule b (bit row n)) (bit row n)) (one ∙ ap (λ b. min b (left_bit halftone (n % 16))) (sym (bit-ones count (skip + n) h)))
+
+ones_source : (t : Transfer) (y : ℕ) → t.left < t.right → (x : ℕ) → t.left ≤ x → x < t.right → bit (replicate (run_length t + 3) 65535) (skip_of t + (x - 16 * (t.left / 16))) ≡ source_pixel t None x y
+unfolding source_pixel
+ones_source t y columns x hl hr = bit-ones (run_length t + 3) (skip_of t + (x - 16 * (t.left / 16))) (omega (arith, columns))
+
+-- so its words are those of the form after a call without a source.
+pub filled-after : (t : Transfer) (halftone words before after : List ℕ) (y : ℕ)
+    → t.left < t.right → t.right ≤ 16 * t.stride → t.top ≤ y → y < t.bottom
+    → length before ≡ run_length t
+    → ((k : ℕ) → k < length before → get_or before k 0 ≡ get_or words (run_start t y + k) 0)
+    → ((n : ℕ) → n < 16 * length before → bit after n ≡ fill_bit t.rule (get_or halftone (y % 16) 0) (t.left - 16 * (t.left / 16)) (t.right - 16 * (t.left / 16)) before n)
+    → ((k : ℕ) → get_or after k 0 < 65536)
+    → (i : ℕ) → i < run_length t → get_or after i 0 ≡ word_after t None halftone words (run_start t y + i)
+filled-after t halftone words before after y columns wide top bottom len read row fits =
+    run-after t None halftone words (replicate (run_length t + 3) 65535) before after y columns wide top bottom
+    (ones_source t y columns) len read
+    (λ n h. row n h ∙ fill-row t.rule (run_length t + 3) (skip_of t) (get_or halftone (y % 16) 0) (t.left - 16 * (t.left / 16)) (t.right - 16 * (t.left / 16)) before n (omega (arith, len)))
+    fits
+
+pub filled-none : (t : Transfer) (source : Option (List ℕ)) (halftone words after : List ℕ) (y : ℕ) → source ≡ None
+    → ((i : ℕ) → i < run_length t → get_or after i 0 ≡ word_after t None halftone words (run_start t y + i))
+    → (i : ℕ) → i < run_length t → get_or after i 0 ≡ word_after t source halftone words (run_start t y + i)
+filled-none t source halftone words after y lacks made i low = made i low ∙ sym (ap (λ (s : Option (List ℕ)). word_after t s halftone words (run_start t y + i)) lacks)
 
 -- only what lies inside counts
 pub chosen-inside : (from count k x y z : ℕ) → (from ≤ k → k < from + count → x ≡ y) → cond (within from (from + count) k) x z ≡ cond (within from (from + count) k) y z

@@ -23,7 +23,7 @@ ghost use Rattle.contexts.specs.Calls.{StaysFit};
 
 use crate::asked::Asked;
 use crate::clip::{Span, clip_axis};
-use crate::rows::blend_rows;
+use crate::rows::change_rows;
 use crate::transfer::Transfer;
 use contexts::Stop;
 use forms::{Extent, HALFTONE_WORDS, row_words};
@@ -166,5 +166,5 @@ pub(crate) fn copy_pixels<M: ObjectMemory>(
     let mut words = [BLACK; HALFTONE_WORDS as usize];
     read_halftone(m, halftone, &mut words)?;
     let t = plan(q, dest, source, x, y);
-    blend_rows(m, &t, &words)
+    change_rows(m, &t, &words)
 }

@@ -1,5 +1,6 @@
-// The rows of a transfer, each read whole before it is written. The destination's bits are in R13, the source's in R14.
-ghost use Rattle.std.specs.Prelude.{◌≡◌, ◌+◌, ◌-◌, ◌*◌, ◌/◌, ◌<◌, ◌≤◌, ℕ, [], List, length, slice_index, IsTrue, OnOk};
+// The rows of a transfer, each read whole before it is written. The destination's bits are in R13, the source's in R14. Where there is no
+// source, rows are filled: nothing is read but the destination, and any order is right.
+ghost use Rattle.std.specs.Prelude.{◌≡◌, ◌+◌, ◌-◌, ◌*◌, ◌/◌, ◌<◌, ◌≤◌, ℕ, true, false, [], List, length, slice_index, IsTrue, OnOk};
 ghost use Rattle.object_memory.specs.Told.{IsReady};
 ghost use Rattle.object_memory.specs.Shape.{Looks};
 ghost use Rattle.blue_model.specs.declared.cpu.Cpu.{Cpu as Numbers};
@@ -14,7 +15,7 @@ ghost use Rattle.object_memory.specs.Calls.{IsFit};
 ghost use Rattle.contexts.specs.Calls.{StaysFit};
 
 use crate::transfer::Transfer;
-use bit_rows::blend_row;
+use bit_rows::{blend_row, fill_row};
 use contexts::Stop;
 use forms::HALFTONE_WORDS;
 use object_memory::{ObjectMemory, Reg};
@@ -30,7 +31,7 @@ const SHORT_RUN_WORDS: usize = 16;
 
 const SHORT_BUFFER_WORDS: usize = 19;
 
-/// Reads the source's words for a row, from the second place on. Without a source all bits are 1 that the row asks for.
+/// Reads the source's words for a row, from the second place on.
 #[inline(always)]
 fn read_source<M: ObjectMemory>(
     m: &mut M,
@@ -41,6 +42,7 @@ fn read_source<M: ObjectMemory>(
     requires fit { IsFit M.ObjectMemory m.old }
     requires fits { Fits t.now }
     requires rooms { HasRooms t.now (M.told m.old) }
+    requires some { t.now.has_source ≡ true }
     requires row { t.now.top ≤ y }
     requires below { y < t.now.bottom }
     requires room { run_length t.now + 3 ≤ length out.old }
@@ -49,15 +51,10 @@ fn read_source<M: ObjectMemory>(
     ensures pixels { OnOk result (IsTrue (M.told m.old).tells → (x : ℕ) → t.now.left ≤ x → x < t.now.right → bit out.new (skip_of t.now + (x - 16 * (t.now.left / 16))) ≡ source_pixel t.now (source_words t.now.has_source (M.told m.old)) x y) }
     ensures fit { StaysFit M.ObjectMemory m.old m.new result }
 {
-    if t.has_source {
-        let first = t.source_left / 16;
-        let count = (t.source_left + (t.right - 1 - t.left)) / 16 - first + 1;
-        let at = t.source_stride * (y - t.top + t.source_top) + first;
-        m.read_words(Reg::R14, at as u32, &mut out[1..1 + count])?;
-    } else {
-        let count = (t.right - 1) / 16 - t.left / 16 + 1;
-        out[..count + 2].fill(0xFFFF);
-    }
+    let first = t.source_left / 16;
+    let count = (t.source_left + (t.right - 1 - t.left)) / 16 - first + 1;
+    let at = t.source_stride * (y - t.top + t.source_top) + first;
+    m.read_words(Reg::R14, at as u32, &mut out[1..1 + count])?;
     Ok(())
 }
 
@@ -100,6 +97,36 @@ fn blend_run<M: ObjectMemory>(
     Ok(())
 }
 
+/// Changes the run of a row, where there is no source.
+#[inline(always)]
+fn fill_run<M: ObjectMemory>(
+    m: &mut M,
+    t: &Transfer,
+    halftone: &[u16],
+    y: usize,
+    run: &mut [u16],
+) -> Result<(), Stop>
+    requires fit { IsFit M.ObjectMemory m.old }
+    requires fits { Fits t.now }
+    requires rooms { HasRooms t.now (M.told m.old) }
+    requires none { t.now.has_source ≡ false }
+    requires row { t.now.top ≤ y }
+    requires below { y < t.now.bottom }
+    requires halftone { length halftone.now ≡ HALFTONE_WORDS }
+    requires run { length run.old ≡ run_length t.now }
+    ensures serves { (cpu : Numbers) → Serves (M.told m.old) cpu (M.told m.new) cpu (put_words ((M.told m.old).regs 13) (row_words t.now (source_words t.now.has_source (M.told m.old)) halftone.now (dest_words (M.told m.old)) y)) result }
+    ensures written { OnOk result (IsWritten t.now (M.told m.old) (M.told m.new) (row_words t.now (source_words t.now.has_source (M.told m.old)) halftone.now (dest_words (M.told m.old)) y)) }
+    ensures fit { StaysFit M.ObjectMemory m.old m.new result }
+{
+    let first = t.left / 16;
+    let at = (t.stride * y + first) as u32;
+    let tone = halftone[y % HALFTONE_WORDS as usize];
+    m.read_words(Reg::R13, at, run)?;
+    fill_row(run, t.left - 16 * first, t.right - 16 * first, tone, t.rule);
+    m.write_words(Reg::R13, at, run)?;
+    Ok(())
+}
+
 /// Changes a row. The buffers are for the words of the row that it reads and of the one that it writes.
 #[inline(always)]
 fn blend_one<M: ObjectMemory>(
@@ -113,6 +140,7 @@ fn blend_one<M: ObjectMemory>(
     requires fit { IsFit M.ObjectMemory m.old }
     requires fits { Fits t.now }
     requires rooms { HasRooms t.now (M.told m.old) }
+    requires some { t.now.has_source ≡ true }
     requires row { t.now.top ≤ y }
     requires below { y < t.now.bottom }
     requires halftone { length halftone.now ≡ HALFTONE_WORDS }
@@ -131,19 +159,15 @@ fn blend_one<M: ObjectMemory>(
 #[inline(always)]
 fn reads_before(t: &Transfer, y: usize) -> bool
     requires fits { Fits t.now }
+    requires some { t.now.has_source ≡ true }
     requires row { t.now.top ≤ y }
     requires below { y < t.now.bottom }
     ensures { result ≡ transfers.reads_before t.now y }
 {
-    if t.has_source {
-        t.source_stride * (y - t.top + t.source_top) + t.source_left / 16
-            < t.stride * y + t.left / 16
-    } else {
-        false
-    }
+    t.source_stride * (y - t.top + t.source_top) + t.source_left / 16 < t.stride * y + t.left / 16
 }
 
-/// Changes all rows. Source, destination and halftone are those before the call, also where the source is the destination's object
+/// Changes all rows, where there is a source. Source, destination and halftone are those before the call, also where the source is the destination's object
 /// in any place and of any width: the rows that read words before those they write go first, from the last one up, and then the
 /// others, from the first one down. So no row reads a word that was written. The buffers are for the words of a row that it reads and
 /// of the one that it writes.
@@ -157,6 +181,7 @@ fn blend_within<M: ObjectMemory>(
     requires fit { IsFit M.ObjectMemory m.old }
     requires fits { Fits t.now }
     requires rooms { HasRooms t.now (M.told m.old) }
+    requires some { t.now.has_source ≡ true }
     requires halftone { length halftone.now ≡ HALFTONE_WORDS }
     requires room { run_length t.now + 3 ≤ length source.old }
     requires run { run_length t.now ≤ length run.old }
@@ -178,15 +203,36 @@ fn blend_within<M: ObjectMemory>(
     Ok(())
 }
 
-/// Changes all rows, as `blend_within` does, in buffers that are short where the rows are.
-pub(crate) fn blend_rows<M: ObjectMemory>(
+/// Changes all rows, where there is no source. The buffer is for the words of a row.
+fn fill_within<M: ObjectMemory>(
     m: &mut M,
     t: &Transfer,
     halftone: &[u16],
+    run: &mut [u16],
 ) -> Result<(), Stop>
     requires fit { IsFit M.ObjectMemory m.old }
     requires fits { Fits t.now }
     requires rooms { HasRooms t.now (M.told m.old) }
+    requires none { t.now.has_source ≡ false }
+    requires halftone { length halftone.now ≡ HALFTONE_WORDS }
+    requires run { run_length t.now ≤ length run.old }
+    ensures serves { (cpu : Numbers) → Serves (M.told m.old) cpu (M.told m.new) cpu (blit_words t.now.has_source ((M.told m.old).regs 14) ((M.told m.old).regs 13) (words_after t.now (source_words t.now.has_source (M.told m.old)) halftone.now (dest_words (M.told m.old)))) result }
+    ensures regs { OnOk result ((M.told m.new).regs ≡ (M.told m.old).regs) }
+    ensures fit { StaysFit M.ObjectMemory m.old m.new result }
+{
+    let count = (t.right - 1) / 16 - t.left / 16 + 1;
+    for row in t.top..t.bottom {
+        fill_run(m, t, halftone, row, &mut run[..count])?;
+    }
+    Ok(())
+}
+
+/// Changes all rows, as `blend_within` does, in buffers that are short where the rows are.
+fn blend_rows<M: ObjectMemory>(m: &mut M, t: &Transfer, halftone: &[u16]) -> Result<(), Stop>
+    requires fit { IsFit M.ObjectMemory m.old }
+    requires fits { Fits t.now }
+    requires rooms { HasRooms t.now (M.told m.old) }
+    requires some { t.now.has_source ≡ true }
     requires halftone { length halftone.now ≡ HALFTONE_WORDS }
     ensures serves { (cpu : Numbers) → Serves (M.told m.old) cpu (M.told m.new) cpu (blit_words t.now.has_source ((M.told m.old).regs 14) ((M.told m.old).regs 13) (words_after t.now (source_words t.now.has_source (M.told m.old)) halftone.now (dest_words (M.told m.old)))) result }
     ensures regs { OnOk result ((M.told m.new).regs ≡ (M.told m.old).regs) }
@@ -201,5 +247,47 @@ pub(crate) fn blend_rows<M: ObjectMemory>(
         let mut source = [0; BUFFER_WORDS];
         let mut run = [0; RUN_WORDS];
         blend_within(m, t, halftone, &mut source, &mut run)
+    }
+}
+
+/// Changes all rows, as `fill_within` does, in a buffer that is short where the rows are.
+fn fill_rows<M: ObjectMemory>(m: &mut M, t: &Transfer, halftone: &[u16]) -> Result<(), Stop>
+    requires fit { IsFit M.ObjectMemory m.old }
+    requires fits { Fits t.now }
+    requires rooms { HasRooms t.now (M.told m.old) }
+    requires none { t.now.has_source ≡ false }
+    requires halftone { length halftone.now ≡ HALFTONE_WORDS }
+    ensures serves { (cpu : Numbers) → Serves (M.told m.old) cpu (M.told m.new) cpu (blit_words t.now.has_source ((M.told m.old).regs 14) ((M.told m.old).regs 13) (words_after t.now (source_words t.now.has_source (M.told m.old)) halftone.now (dest_words (M.told m.old)))) result }
+    ensures regs { OnOk result ((M.told m.new).regs ≡ (M.told m.old).regs) }
+    ensures fit { StaysFit M.ObjectMemory m.old m.new result }
+{
+    let count = (t.right - 1) / 16 - t.left / 16 + 1;
+    if count <= SHORT_RUN_WORDS {
+        let mut run = [0; SHORT_RUN_WORDS];
+        fill_within(m, t, halftone, &mut run)
+    } else {
+        let mut run = [0; RUN_WORDS];
+        fill_within(m, t, halftone, &mut run)
+    }
+}
+
+/// Changes all rows, with a source or without.
+pub(crate) fn change_rows<M: ObjectMemory>(
+    m: &mut M,
+    t: &Transfer,
+    halftone: &[u16],
+) -> Result<(), Stop>
+    requires fit { IsFit M.ObjectMemory m.old }
+    requires fits { Fits t.now }
+    requires rooms { HasRooms t.now (M.told m.old) }
+    requires halftone { length halftone.now ≡ HALFTONE_WORDS }
+    ensures serves { (cpu : Numbers) → Serves (M.told m.old) cpu (M.told m.new) cpu (blit_words t.now.has_source ((M.told m.old).regs 14) ((M.told m.old).regs 13) (words_after t.now (source_words t.now.has_source (M.told m.old)) halftone.now (dest_words (M.told m.old)))) result }
+    ensures regs { OnOk result ((M.told m.new).regs ≡ (M.told m.old).regs) }
+    ensures fit { StaysFit M.ObjectMemory m.old m.new result }
+{
+    if t.has_source {
+        blend_rows(m, t, halftone)
+    } else {
+        fill_rows(m, t, halftone)
     }
 }
