@@ -1,2 +1,3 @@
+pub mod OpenedLaws
 pub mod PutLaws
 pub mod SavingLaws

@@ -81,7 +81,8 @@ pub trait System {
         ensures opened { IsTrue tells → IfOk result (λ o. Does (Opens making (entry path.now) o.descriptor o.found.file (Some way)) (moments self.old) (moments self.new)) }
         ensures failed { IsTrue tells → OnErr result (FailsToOpen making (entry path.now) (moments self.old) (moments self.new)) }
         ensures kind { IsTrue tells → IfOk result (λ o. ((moments self.new).now.files o.found.file).kind ≡ o.found.kind) }
-        ensures named { IsTrue tells → (i : ℕ) → (moments self.old).now.names (entry path.now) ≡ Some i → ((moments self.old).now.files i).kind ≢ Link → IfOk result (λ o. o.found.file ≡ i) };
+        ensures named { IsTrue tells → (i : ℕ) → (moments self.old).now.names (entry path.now) ≡ Some i → ((moments self.old).now.files i).kind ≢ Link → IfOk result (λ o. o.found.file ≡ i) }
+        ensures missing { IsTrue tells → (i : ℕ) → (moments self.old).now.names (entry path.now) ≡ Some i → ((moments self.old).now.files i).kind ≢ Link → IfErr result (λ r. r ≢ Missing) };
 
     /// Opens the folder that the path lies in, to be synced.
     fn open_folder(&mut self, path: &str) -> Result<u32, Refusal>
