@@ -10,8 +10,8 @@ use Rattle.disk_objects.specs.declared.rest.DiskRest.{DiskRest}
 use Rattle.disk_objects.specs.Calls.{HoldsObjects}
 use Rattle.disk_objects.specs.Function.{disk_of, counts_of}
 use Rattle.image_writer.specs.Saved.{IsExact, disk_heap}
-use Rattle.counted_core.specs.Levels.{Stored, record_in, heap_of}
-use Rattle.counted_core.proofs.DeadLaws.{bounded}
+use Rattle.core_view.specs.Levels.{Stored, record_in, heap_of}
+use Rattle.core_view.proofs.DeadLaws.{bounded}
 use Rattle.delta_counts.specs.At.{IsStoredIn}
 use Rattle.delta_counts.proofs.StoredLaws.{records-at, counts-at}
 use Rattle.purger.specs.Closing.{HasKept}

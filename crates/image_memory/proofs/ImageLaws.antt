@@ -35,8 +35,8 @@ use Rattle.image_reader.proofs.LoadLaws.{whole_broken}
 use Rattle.image_writer.specs.Saved.{IsExact}
 use Rattle.image_writer.proofs.NameTexts.{counts_are}
 use Rattle.image_writer.proofs.SaveLaws.{names_are}
-use Rattle.counted_core.specs.Levels.{Stored, record_in}
-use Rattle.counted_core.specs.Counted.{IsHeld}
+use Rattle.core_view.specs.Levels.{Stored, record_in}
+use Rattle.core_view.specs.Counted.{IsHeld}
 use Rattle.delta_counts.specs.At.{IsStoredAt, stored_of}
 use Rattle.delta_counts.proofs.StoredLaws.{records-at, counts-at}
 use Rattle.object_memory.specs.Contract.{ForBounds}

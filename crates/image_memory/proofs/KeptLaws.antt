@@ -29,8 +29,8 @@ use Rattle.disk_objects.specs.declared.rest.DiskRest.{DiskRest}
 use Rattle.disk_objects.proofs.FoundLaws.{record-there}
 use Rattle.disk_objects.proofs.PutLaws.{held-most}
 use Rattle.core_view.specs.Kept.{IsValued}
-use Rattle.counted_core.specs.Counted.{IsHeld}
-use Rattle.counted_core.specs.Levels.{Stored, record_in}
+use Rattle.core_view.specs.Counted.{IsHeld}
+use Rattle.core_view.specs.Levels.{Stored, record_in}
 use Rattle.delta_counts.proofs.StoredLaws.{object-at}
 use Rattle.loom_memory.specs.declared.memory.LoomMemory.{LoomMemory}
 use Rattle.loom_memory.specs.Memory.{loom_now, loom_parts, loom_rest, loom_told, IsSound}

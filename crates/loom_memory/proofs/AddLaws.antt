@@ -53,10 +53,10 @@ use Rattle.leaf_lambda.specs.Making.{body_new}
 use Rattle.leaf_lambda.specs.Whole.{IsWhole}
 use Rattle.loom_memory.proofs.OverLaws.{over_parts}
 use Rattle.leaf_lambda.specs.Parts.{core_of, spare_of, IsParts}
-use Rattle.counted_core.specs.Levels.{Levels, records_of, heap_of}
-use Rattle.counted_core.specs.Counted.{IsSound as AreSound}
-use Rattle.counted_core.specs.Steps.{made}
-use Rattle.counted_core.proofs.SwapLaws.{held-on}
+use Rattle.core_view.specs.Levels.{Levels, records_of, heap_of}
+use Rattle.core_view.specs.Counted.{IsSound as AreSound}
+use Rattle.core_view.specs.LevelSteps.{made}
+use Rattle.core_view.proofs.SwapLaws.{held-on}
 use Rattle.method_cache.specs.Found.{found}
 use Rattle.purger.specs.declared.eviction.TheConstants.{NOWHERE}
 use Rattle.purger.specs.declared.room.Pinned.{Pinned}

@@ -31,13 +31,13 @@ use Rattle.core_view.specs.Held.{Disk, held}
 use Rattle.core_view.specs.Kept.{IsCore, Keeps, Stays}
 use Rattle.leaf_lambda.specs.declared.parts.Parts.{Parts}
 use Rattle.leaf_lambda.specs.Parts.{core_of, spare_of, IsParts, IsWithin, IsNaming, IsHolding, IsDropping, IsLeafStep}
-use Rattle.counted_core.specs.Levels.{Levels, count_in, records_of, heap_of, is_waiting, waits}
-use Rattle.counted_core.specs.Counted.{words, one_if, IsHeld, IsSound as AreSound}
-use Rattle.counted_core.specs.Steps.{with_core, IsMaking, IsUncounted}
-use Rattle.counted_core.proofs.LevelLaws.{heap-is, heap-same, by_name, counted-step}
-use Rattle.counted_core.proofs.CameLaws.{came-sound, counted-quiet, known-quiet}
-use Rattle.counted_core.proofs.QueueLaws.{entered-waits}
-use Rattle.counted_core.proofs.DeadLaws.{bounded}
+use Rattle.core_view.specs.Levels.{Levels, count_in, records_of, heap_of, is_waiting, waits}
+use Rattle.core_view.specs.Counted.{words, one_if, IsHeld, IsSound as AreSound}
+use Rattle.core_view.specs.LevelSteps.{with_core, IsMaking, IsUncounted}
+use Rattle.core_view.proofs.LevelLaws.{heap-is, heap-same, by_name, counted-step}
+use Rattle.core_view.proofs.CameLaws.{came-sound, counted-quiet, known-quiet}
+use Rattle.core_view.proofs.QueueLaws.{entered-waits}
+use Rattle.core_view.proofs.DeadLaws.{bounded}
 use Rattle.delta_counts.specs.At.{IsStoredIn}
 use Rattle.purger.specs.Counts.{StandsFor, HasSound, KeepsCounts, KeepsSound}
 use Rattle.purger.proofs.NamingLaws.{counts-free, brought-sound}

@@ -29,10 +29,10 @@ use Rattle.core_view.proofs.Lists.{count-cons}
 use Rattle.core_view.proofs.Sums.{sum-none, sum-out}
 use Rattle.leaf_lambda.specs.declared.parts.Parts.{Parts}
 use Rattle.leaf_lambda.specs.Parts.{core_of, spare_of, IsParts}
-use Rattle.counted_core.specs.Levels.{Stored, Levels, record_in}
-use Rattle.counted_core.specs.Counted.{IsHeld}
-use Rattle.counted_core.specs.Steps.{IsBegun}
-use Rattle.counted_core.proofs.BeginLaws.{begun-heap, begun-sound}
+use Rattle.core_view.specs.Levels.{Stored, Levels, record_in}
+use Rattle.core_view.specs.Counted.{IsHeld}
+use Rattle.core_view.specs.LevelSteps.{IsBegun}
+use Rattle.core_view.proofs.BeginLaws.{begun-heap, begun-sound}
 use Rattle.purger.specs.declared.room.Pinned.{Pinned}
 use Rattle.purger.specs.Counts.{StandsFor}
 use Rattle.purger.proofs.SoundLaws.{core-is, core-at, disk-at}

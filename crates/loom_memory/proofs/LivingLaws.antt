@@ -29,9 +29,9 @@ use Rattle.disk_objects.specs.Disk.{disk_held}
 use Rattle.core_view.proofs.Core.{held-at, placed-used}
 use Rattle.core_view.proofs.Steps.{outside-used}
 use Rattle.core_view.proofs.Words.{meant-short}
-use Rattle.counted_core.specs.Levels.{heap_of}
-use Rattle.counted_core.specs.Dead.{outside_by}
-use Rattle.counted_core.proofs.DeadLaws.{bounded, used-counted}
+use Rattle.core_view.specs.Levels.{heap_of}
+use Rattle.core_view.specs.Dead.{outside_by}
+use Rattle.core_view.proofs.DeadLaws.{bounded, used-counted}
 use Rattle.delta_counts.proofs.NumberLaws.{held-on_disk}
 use Rattle.leaf_lambda.specs.declared.parts.Parts.{Parts}
 use Rattle.leaf_lambda.specs.Whole.{IsWhole}

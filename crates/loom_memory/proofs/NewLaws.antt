@@ -33,14 +33,14 @@ use Rattle.leaf_lambda.specs.declared.parts.Parts.{Parts}
 use Rattle.leaf_lambda.specs.Making.{body_new, fields_new, IsMade}
 use Rattle.leaf_lambda.specs.Parts.{core_of, IsLeafStep, IsParts, IsWithin}
 use Rattle.leaf_lambda.proofs.MakeLaws.{leaf-made}
-use Rattle.counted_core.specs.Levels.{Levels, records_of, heap_of}
-use Rattle.counted_core.specs.Counted.{words, words_of, IsSound}
-use Rattle.counted_core.specs.Steps.{changed_at, made, with_change, with_core, IsMaking}
-use Rattle.counted_core.proofs.CameLaws.{known-quiet, leaf-sound}
-use Rattle.counted_core.proofs.CanLaws.{change-more, raise-many}
-use Rattle.counted_core.proofs.DeadLaws.{bounded}
-use Rattle.counted_core.proofs.LevelLaws.{heap-same, words-cons}
-use Rattle.counted_core.proofs.StoreLaws.{made-sound}
+use Rattle.core_view.specs.Levels.{Levels, records_of, heap_of}
+use Rattle.core_view.specs.Counted.{words, words_of, IsSound}
+use Rattle.core_view.specs.LevelSteps.{changed_at, made, with_change, with_core, IsMaking}
+use Rattle.core_view.proofs.CameLaws.{known-quiet, leaf-sound}
+use Rattle.core_view.proofs.CanLaws.{change-more, raise-many}
+use Rattle.core_view.proofs.DeadLaws.{bounded}
+use Rattle.core_view.proofs.LevelLaws.{heap-same, words-cons}
+use Rattle.core_view.proofs.StoreLaws.{made-sound}
 use Rattle.delta_counts.specs.Parts.{core_with, IsChange, IsCounting}
 use Rattle.delta_counts.proofs.DrainLaws.{counting-giving}
 use Rattle.purger.specs.declared.room.Pinned.{Pinned}

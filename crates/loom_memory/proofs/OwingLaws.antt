@@ -32,16 +32,16 @@ use Rattle.core_view.proofs.Core.{placed-used, held-at}
 use Rattle.core_view.proofs.Words.{meant-short, meant-odd}
 use Rattle.leaf_lambda.specs.declared.parts.Parts.{Parts}
 use Rattle.leaf_lambda.specs.Parts.{core_of}
-use Rattle.counted_core.specs.Levels.{Stored, Levels, record_in, count_in, records_of, heap_of, waits}
-use Rattle.counted_core.specs.Counted.{words, one_if, IsHeld, IsSound as AreSound}
-use Rattle.counted_core.specs.Dead.{IsBare, bare_by}
-use Rattle.counted_core.specs.Steps.{swapped, changed_at, lowered_by, raised_by, with_core}
-use Rattle.counted_core.proofs.LevelLaws.{heap-is, by_name, counted-over, sound-as}
-use Rattle.counted_core.proofs.ChangeLaws.{lowered-sound}
-use Rattle.counted_core.proofs.CanLaws.{change-less, change-more, raise-one}
-use Rattle.counted_core.proofs.DeadLaws.{bounded}
-use Rattle.counted_core.proofs.StoreLaws.{stored-sound}
-use Rattle.counted_core.proofs.SwapLaws.{swapped-sound}
+use Rattle.core_view.specs.Levels.{Stored, Levels, record_in, count_in, records_of, heap_of, waits}
+use Rattle.core_view.specs.Counted.{words, one_if, IsHeld, IsSound as AreSound}
+use Rattle.core_view.specs.Dead.{IsBare, bare_by}
+use Rattle.core_view.specs.LevelSteps.{swapped, changed_at, lowered_by, raised_by, with_core}
+use Rattle.core_view.proofs.LevelLaws.{heap-is, by_name, counted-over, sound-as}
+use Rattle.core_view.proofs.ChangeLaws.{lowered-sound}
+use Rattle.core_view.proofs.CanLaws.{change-less, change-more, raise-one}
+use Rattle.core_view.proofs.DeadLaws.{bounded}
+use Rattle.core_view.proofs.StoreLaws.{stored-sound}
+use Rattle.core_view.proofs.SwapLaws.{swapped-sound}
 use Rattle.delta_counts.proofs.SwapLaws.{swap-stored}
 use Rattle.delta_counts.specs.Parts.{IsChange}
 use Rattle.purger.specs.Counts.{StandsFor}

@@ -23,7 +23,7 @@ use Rattle.core_view.proofs.Sums.{sum-same}
 use Rattle.core_view.proofs.Tight.{owners-tight}
 use Rattle.leaf_lambda.specs.declared.parts.Parts.{Parts}
 use Rattle.leaf_lambda.specs.Parts.{core_of, IsParts}
-use Rattle.counted_core.specs.Steps.{changed_at, with_change}
+use Rattle.core_view.specs.LevelSteps.{changed_at, with_change}
 use Rattle.delta_counts.specs.Parts.{core_with, IsCounting}
 use Rattle.purger.specs.declared.room.Pinned.{Pinned}
 use Rattle.purger.specs.Marks.{AreHere, KeepsMarks}

@@ -19,9 +19,9 @@ use Rattle.core_view.specs.Counts.{names}
 use Rattle.core_view.specs.Words.{meant}
 use Rattle.core_view.proofs.Lists.{count-cons}
 use Rattle.core_view.proofs.Words.{meant-short}
-use Rattle.counted_core.specs.Levels.{Levels, heap_of}
-use Rattle.counted_core.specs.Counted.{IsSound as AreSound}
-use Rattle.counted_core.specs.Dead.{NoneDead, outside_by, roots_of}
+use Rattle.core_view.specs.Levels.{Levels, heap_of}
+use Rattle.core_view.specs.Counted.{IsSound as AreSound}
+use Rattle.core_view.specs.Dead.{NoneDead, outside_by, roots_of}
 use Rattle.purger.specs.declared.room.Pinned.{Pinned}
 use Rattle.loom_memory.specs.Memory.{name_if, pin_in, word_in}
 use Rattle.loom_memory.specs.Makings.{HasThinned}

@@ -28,8 +28,8 @@ use Rattle.core_view.proofs.Words.{body-fields}
 use Rattle.core_view.proofs.Lists.{length-values}
 use Rattle.core_view.proofs.Few.{literal_count-small, pointers-small}
 use Rattle.leaf_lambda.proofs.RecordLaws.{fields-values}
-use Rattle.counted_core.specs.Levels.{Stored, Levels, record_in, records_of, heap_of}
-use Rattle.counted_core.specs.Counted.{IsHeld, IsSound as AreSound}
+use Rattle.core_view.specs.Levels.{Stored, Levels, record_in, records_of, heap_of}
+use Rattle.core_view.specs.Counted.{IsHeld, IsSound as AreSound}
 use Rattle.long_names.proofs.CountLaws.{sum_below, sum-limit, words_in, count-sum}
 use Rattle.delta_counts.specs.At.{IsStoredIn}
 use Rattle.delta_counts.proofs.StoredLaws.{object-at}

@@ -31,10 +31,10 @@ use Rattle.core_view.proofs.Words.{meant-short}
 use Rattle.method_cache.specs.Found.{found}
 use Rattle.leaf_lambda.specs.declared.parts.Parts.{Parts}
 use Rattle.leaf_lambda.specs.Parts.{core_of}
-use Rattle.counted_core.specs.Levels.{Levels, heap_of}
-use Rattle.counted_core.specs.Counted.{IsSound as AreSound}
-use Rattle.counted_core.specs.Dead.{outside_by, roots_of}
-use Rattle.counted_core.proofs.DeadLaws.{bounded}
+use Rattle.core_view.specs.Levels.{Levels, heap_of}
+use Rattle.core_view.specs.Counted.{IsSound as AreSound}
+use Rattle.core_view.specs.Dead.{outside_by, roots_of}
+use Rattle.core_view.proofs.DeadLaws.{bounded}
 use Rattle.delta_counts.proofs.NumberLaws.{held-on_disk}
 use Rattle.purger.specs.declared.room.Pinned.{Pinned}
 use Rattle.purger.specs.Counts.{StandsFor}

@@ -14,9 +14,9 @@ use Rattle.core_view.specs.Held.{Disk}
 use Rattle.core_view.specs.Kept.{IsBacked, IsTight}
 use Rattle.leaf_lambda.specs.declared.parts.Parts.{Parts}
 use Rattle.leaf_lambda.specs.Parts.{core_of, IsParts}
-use Rattle.counted_core.specs.Levels.{Stored}
-use Rattle.counted_core.specs.Counted.{IsHeld}
-use Rattle.counted_core.specs.Dead.{IsImage}
+use Rattle.core_view.specs.Levels.{Stored}
+use Rattle.core_view.specs.Counted.{IsHeld}
+use Rattle.core_view.specs.Dead.{IsImage}
 use Rattle.delta_counts.specs.At.{IsStoredAt}
 use Rattle.object_memory.specs.Told.{Told}
 use Rattle.loom_memory.specs.declared.beginning.CoreTables.{CoreTables}

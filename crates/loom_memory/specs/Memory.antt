@@ -43,8 +43,8 @@ use Rattle.method_cache.specs.Found.{found}
 use Rattle.purger.specs.declared.eviction.TheConstants.{NOWHERE}
 use Rattle.purger.specs.Counts.{StandsFor}
 use Rattle.purger.specs.Marks.{AreHere, LeavesMarks}
-use Rattle.counted_core.specs.Levels.{Levels}
-use Rattle.counted_core.specs.Counted.{IsSound as AreSound}
+use Rattle.core_view.specs.Levels.{Levels}
+use Rattle.core_view.specs.Counted.{IsSound as AreSound}
 use Rattle.loom_memory.specs.Cache.{has_mark, cache_of, IsCached}
 use Rattle.loom_memory.specs.Numbers.{IsNumbered}
 use Rattle.core_view.specs.Kept.{IsTight}

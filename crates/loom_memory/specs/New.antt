@@ -15,7 +15,7 @@ use Rattle.core_view.specs.Held.{Disk, held}
 use Rattle.core_view.specs.Kept.{IsBacked, IsTight, IsValued, Stays}
 use Rattle.core_view.specs.Purge.{fresh_of}
 use Rattle.leaf_lambda.specs.Making.{body_new}
-use Rattle.counted_core.specs.Levels.{Levels, heap_of}
+use Rattle.core_view.specs.Levels.{Levels, heap_of}
 use Rattle.purger.specs.declared.room.Pinned.{Pinned}
 use Rattle.purger.specs.Marks.{KeepsMarks}
 use Rattle.loom_memory.specs.Known.{IsEntryOf}

@@ -9,7 +9,7 @@ use Rattle.object_table.specs.Entries.{place_of}
 use Rattle.core_view.specs.Core.{Core}
 use Rattle.core_view.specs.Counts.{outside}
 use Rattle.core_view.specs.Kept.{Stays}
-use Rattle.counted_core.specs.Steps.{with_change}
+use Rattle.core_view.specs.LevelSteps.{with_change}
 use Rattle.loom_memory.specs.declared.memory.LoomMemory.{LoomMemory}
 use Rattle.loom_memory.specs.Memory.{word_in, loom_core}
 

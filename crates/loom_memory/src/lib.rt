@@ -23,7 +23,7 @@
 //! comes in, and that cached rows stay.
 //!
 //! Read `specs/Memory.antt` first: `told_of`, what is told of a core over a disk, and `IsSound`: what the core keeps over every host
-//! (`IsKept`), what it keeps with a disk (`IsOver`), and that counts are exact (`IsExact`), which is said of the levels of `counted_core` that core
+//! (`IsKept`), what it keeps with a disk (`IsOver`), and that counts are exact (`IsExact`), which is said of the levels of `core_view` that core
 //! and disk stand for. `specs/Cache.antt` has the rows of the method cache. Objects leave by `purger`.
 //!
 //! - Proved: `LoomMemory` meets every clause of `ObjectMemory`, over every host: each access is answered or refused with its row's exact

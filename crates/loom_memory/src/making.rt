@@ -15,9 +15,9 @@ ghost use Rattle.core_view.specs.Steps.{IsSpare};
 ghost use Rattle.core_view.specs.Words.{int_of_short, most_len, words_for};
 ghost use Rattle.leaf_lambda.specs.Making.{fields_new};
 ghost use Rattle.leaf_lambda.specs.Parts.{core_of, spare_of, IsLeafStep, IsParts};
-ghost use Rattle.counted_core.specs.Levels.{Levels, heap_of};
-ghost use Rattle.counted_core.specs.Counted.{IsSound, words};
-ghost use Rattle.counted_core.specs.Steps.{made, with_core};
+ghost use Rattle.core_view.specs.Levels.{Levels, heap_of};
+ghost use Rattle.core_view.specs.Counted.{IsSound, words};
+ghost use Rattle.core_view.specs.LevelSteps.{made, with_core};
 ghost use Rattle.loom_memory.specs.New.{HasFew, IsNew, IsReadied, words_ahead};
 
 use delta_counts::add_change;

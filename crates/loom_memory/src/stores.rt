@@ -4,7 +4,7 @@ ghost use Rattle.long_names.specs.declared.object.Kind.TheVariants as sort;
 ghost use Rattle.object_table.specs.Entries.{is_short, is_used, place_of};
 ghost use Rattle.core_view.specs.Steps.{IsAt};
 ghost use Rattle.core_view.specs.Words.{meant};
-ghost use Rattle.counted_core.specs.Steps.{changed_at};
+ghost use Rattle.core_view.specs.LevelSteps.{changed_at};
 ghost use Rattle.delta_counts.specs.Parts.{IsChange};
 ghost use Rattle.loom_memory.specs.Stores.{IsRecount};
 ghost use Rattle.leaf_lambda.specs.Parts.{core_of, spare_of, IsParts};

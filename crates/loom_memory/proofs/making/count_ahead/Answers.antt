@@ -1,7 +1,7 @@
 use Rattle.std.proofs.Common.{refl, ◌∙◌, arith}
 use Rattle.leaf_lambda.specs.Parts.{core_of}
 use Rattle.loom_memory.proofs.NewLaws.{ahead-sound, readied-trans}
-use Rattle.counted_core.specs.Steps.{with_core}
+use Rattle.core_view.specs.LevelSteps.{with_core}
 use Rattle.std.proofs.Common.{[], ◌∷◌}
 use Rattle.long_names.specs.declared.value.Value.TheVariants.{Ref}
 use Rattle.loom_memory.proofs.making.count_ahead.Goals as goal

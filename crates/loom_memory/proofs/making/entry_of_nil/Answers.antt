@@ -3,8 +3,8 @@ use Rattle.long_names.specs.Names.{NIL}
 use Rattle.core_view.specs.Core.{Core, with_leaf}
 use Rattle.core_view.specs.Steps.{IsSpare}
 use Rattle.leaf_lambda.specs.Parts.{core_of}
-use Rattle.counted_core.specs.Counted.{IsSound}
-use Rattle.counted_core.specs.Steps.{with_core}
+use Rattle.core_view.specs.Counted.{IsSound}
+use Rattle.core_view.specs.LevelSteps.{with_core}
 use Rattle.loom_memory.proofs.NewLaws.{leaf-nil, leaf-readied, nil-named, readied-refl}
 use Rattle.loom_memory.proofs.making.entry_of_nil.Goals as goal
 

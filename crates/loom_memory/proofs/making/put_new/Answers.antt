@@ -43,9 +43,9 @@ opened c = record {
   nil_named = c.requires.nil.1;
   within = c.make_body.ensures.within;
   body = c.make_body.ensures.body;
-  backed = c.make_body.ensures.backed;
-  heap = c.make_body.ensures.held;
-  valued = c.make_body.ensures.valued;
+  backed = (λ disk backed. (c.make_body.ensures.makes disk backed).backed);
+  heap = (λ disk backed. (c.make_body.ensures.makes disk backed).heap);
+  valued = (λ disk backed. (c.make_body.ensures.makes disk backed).valued);
 }
 
 pub returns-in-None-clause-made : goal.returns-in-None-clause-made
@@ -55,7 +55,7 @@ pub returns-in-None-clause-sound : goal.returns-in-None-clause-sound
 returns-in-None-clause-sound c = λ t is x next. opened-sound (core_of c.args.p.now) (core_of c.new_leaf-s.new.p) (core_of c.make_body.new.p) c.args.name c.args.class.0 c.args.nil.0 c.args.kind c.args.len c.args.header c.new_leaf-s.result.0 t (opened c) is c.requires.long next x
 
 pub returns-in-None-clause-size : goal.returns-in-None-clause-size
-returns-in-None-clause-size c = c.make_body.ensures.size ∙ ap size_of c.new_leaf-s.ensures.segment
+returns-in-None-clause-size c = c.make_body.ensures.takes.size ∙ ap size_of c.new_leaf-s.ensures.segment
 
 pub returns-in-Some-clause-none : goal.returns-in-Some-clause-none
 unfolding core_of

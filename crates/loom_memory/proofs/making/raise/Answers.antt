@@ -4,7 +4,7 @@ use mir.Val.{SFits}
 use Rattle.std.proofs.Common.{◌≡◌, ◌<◌, ◌^◌, ℕ, ℤ, pos, ◌+ℤ◌, ◌∙◌, rules, refl, subst, arith}
 use Rattle.object_table.specs.Table.{entry_at}
 use Rattle.core_segment.specs.Chunks.{Chunk}
-use Rattle.counted_core.specs.Steps.{changed_at}
+use Rattle.core_view.specs.LevelSteps.{changed_at}
 use Rattle.delta_counts.specs.Parts.{core_with, IsChange}
 use Rattle.leaf_lambda.specs.declared.parts.Parts.{Parts}
 use Rattle.purger.proofs.GivingLaws.{used-entry}

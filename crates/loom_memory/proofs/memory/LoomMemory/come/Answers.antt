@@ -36,17 +36,17 @@ keeps-of : (g : given.Over) (c : goal.After-count_fetch g) → IsTrue (g.H.Host.
 keeps-of g c = λ told. c.translate_in.ensures.keeps (disk_of g.H.Host c.args.self.now.pager.levels.disk.host.now c.args.self.now.pager.levels.disk.rest) (c.requires.sound.over.backed told) (c.requires.there told)
 
 calm-of : (g : given.Over) (c : goal.After-count_fetch g) → IsCalm c.args.self.now.pager.pinned (core_of c.args.self.now.pager.levels.parts) (core_of c.translate_in.new.p)
-calm-of g c = within-calm c.args.self.now.pager.pinned c.args.s.0 (core_of c.args.self.now.pager.levels.parts) (core_of c.translate_in.new.p) c.requires.sound.kept.parts.core c.translate_in.ensures.parts.core c.translate_in.ensures.within c.requires.leaf.0 c.requires.leaf.1
+calm-of g c = within-calm c.args.self.now.pager.pinned c.args.s.0 (core_of c.args.self.now.pager.levels.parts) (core_of c.translate_in.new.p) c.requires.sound.kept.parts.core c.translate_in.ensures.parts.core c.translate_in.ensures.opens.1.within c.requires.leaf.0 c.requires.leaf.1
 
 -- it isn't fresh
 fresh-of : (g : given.Over) (c : goal.After-count_fetch g) → IsTrue (g.H.Host.tells Work) → fresh_of (core_of c.translate_in.new.p) ≡ fresh_of (core_of c.args.self.now.pager.levels.parts)
 fresh-of g c = λ told.
     let m = c.args.self.now in
     let disk : Disk = disk_of g.H.Host m.pager.levels.disk.host.now m.pager.levels.disk.rest in
-    let within = c.translate_in.ensures.within in
-    let body = c.translate_in.ensures.body in
+    let within = c.translate_in.ensures.opens.1.within in
+    let opens = c.translate_in.ensures.opens in
     fresh-came (core_of m.pager.levels.parts) (core_of c.translate_in.new.p) c.args.s.0 within.about c.requires.leaf.1
-    (not-fresh (core_of c.translate_in.new.p) disk c.args.s.0 body.0 (object_in (raw_of m.buf)) (keeps-of g c told).backed body.1.place (ap disk (within.live c.args.s.0 c.requires.leaf.0).1 ∙ c.requires.there told))
+    (not-fresh (core_of c.translate_in.new.p) disk c.args.s.0 opens.0 (object_in (raw_of m.buf)) (keeps-of g c told).backed opens.1.body.place (ap disk (within.live c.args.s.0 c.requires.leaf.0).1 ∙ c.requires.there told))
 
 pub returns-clause-quiet : goal.returns-clause-quiet
 unfolding loom_told
@@ -70,7 +70,7 @@ returns-clause-sound g c =
     let m = c.args.self.now in
     let q = c.translate_in.new.p in
     record {
-      kept = fetched-kept q m.regs m.pager.pinned m.ledger c.count_fetch.new.self _ c.count_fetch.ensures (calm-kept m.pager.levels.parts q m.regs m.pager.pinned m.ledger c.requires.sound.kept (calm-of g c) c.translate_in.ensures.parts (c.translate_in.ensures.within.tight c.requires.sound.kept.tight) c.translate_in.ensures.size);
+      kept = fetched-kept q m.regs m.pager.pinned m.ledger c.count_fetch.new.self _ c.count_fetch.ensures (calm-kept m.pager.levels.parts q m.regs m.pager.pinned m.ledger c.requires.sound.kept (calm-of g c) c.translate_in.ensures.parts (c.translate_in.ensures.opens.1.within.tight c.requires.sound.kept.tight) c.translate_in.ensures.opens.1.room.size);
       over = fetched-over g.H.Host m.pager.levels.disk.host.now m.pager.levels.disk.rest (core_of q) m.ledger c.count_fetch.new.self _ c.count_fetch.ensures record {
         stands = c.requires.sound.over.stands;
         backed = λ told. (keeps-of g c told).backed;
@@ -81,7 +81,7 @@ returns-clause-sound g c =
       };
       soon = subst (λ (k : Ledger). m.due ≤ k.next + k.entries / 8) (sym c.count_fetch.ensures) c.requires.sound.soon;
       exact = exact-next g.H.Host q m.pager.levels.disk.host.now m.pager.levels.disk.rest m.ledger.next c.count_fetch.new.self.next [] (ap (λ (k : Ledger). k.next) c.count_fetch.ensures)
-          (exact-brought g.H.Host m.pager.levels.parts q m.pager.levels.disk.host.now m.pager.levels.disk.host.now m.pager.levels.disk.rest m.pager.levels.disk.rest c.args.s.0 m.ledger.next c.requires.sound.exact refl (read-itself g.H.Host m.pager.levels.disk.host.now) c.translate_in.ensures.parts (keeps-of g c) c.translate_in.ensures.naming c.translate_in.ensures.within);
+          (exact-brought g.H.Host m.pager.levels.parts q m.pager.levels.disk.host.now m.pager.levels.disk.host.now m.pager.levels.disk.rest m.pager.levels.disk.rest c.args.s.0 m.ledger.next c.requires.sound.exact refl (read-itself g.H.Host m.pager.levels.disk.host.now) c.translate_in.ensures.parts (keeps-of g c) c.translate_in.ensures.opens.1.naming c.translate_in.ensures.opens.1.within);
       thin = thin-quiet g.H.Host c.args.self.now _ c.requires.sound.thin (λ on. on) (returns-clause-quiet g c);
     }
 
@@ -92,17 +92,17 @@ returns-clause-gentle g c =
     let x = core_of m.pager.levels.parts in
     let y = core_of c.translate_in.new.p in
     record {
-      remains = within-remains c.args.s.0 x y c.translate_in.ensures.within c.requires.leaf.1;
+      remains = within-remains c.args.s.0 x y c.translate_in.ensures.opens.1.within c.requires.leaf.1;
       read = read-itself g.H.Host m.pager.levels.disk.host.now;
       cache = ap (λ (k : Ledger). cache_of y (found k.rows) k.mark k.begun) c.count_fetch.ensures
-          ∙ cache-same x y (found m.ledger.rows) m.ledger.mark m.ledger.begun c.requires.sound.kept.parts.core c.translate_in.ensures.parts.core (within-marks x y c.args.s.0 c.requires.sound.kept.parts.core c.translate_in.ensures.parts.core c.translate_in.ensures.within) c.requires.sound.kept.cached;
+          ∙ cache-same x y (found m.ledger.rows) m.ledger.mark m.ledger.begun c.requires.sound.kept.parts.core c.translate_in.ensures.parts.core (within-marks x y c.args.s.0 c.requires.sound.kept.parts.core c.translate_in.ensures.parts.core c.translate_in.ensures.opens.1.within) c.requires.sound.kept.cached;
     }
 
 pub returns-clause-next : goal.returns-clause-next
 returns-clause-next g c = ap (λ (k : Ledger). k.next) c.count_fetch.ensures
 
 pub returns-clause-minds : goal.returns-clause-minds
-returns-clause-minds g c = minds-come g.H.Host c.args.self.now _ c.args.s.0 c.requires.sound (returns-clause-sound g c) c.translate_in.ensures.within (c.translate_in.ensures.within.live c.args.s.0 c.requires.leaf.0).1 (returns-clause-gentle g c).cache
+returns-clause-minds g c = minds-come g.H.Host c.args.self.now _ c.args.s.0 c.requires.sound (returns-clause-sound g c) c.translate_in.ensures.opens.1.within (c.translate_in.ensures.opens.1.within.live c.args.s.0 c.requires.leaf.0).1 (returns-clause-gentle g c).cache
 
 pub invariant_of-levels : goal.invariant_of-levels
-invariant_of-levels g c = let l = c.args.self.now.pager.levels in record { whole = come-whole l.parts c.translate_in.new.p c.args.s.0 l.whole c.translate_in.ensures.parts c.translate_in.ensures.within c.requires.leaf.0 c.requires.leaf.1 }
+invariant_of-levels g c = let l = c.args.self.now.pager.levels in record { whole = come-whole l.parts c.translate_in.new.p c.args.s.0 l.whole c.translate_in.ensures.parts c.translate_in.ensures.opens.1.within c.requires.leaf.0 c.requires.leaf.1 }

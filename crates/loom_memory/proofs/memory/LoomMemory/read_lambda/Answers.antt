@@ -121,7 +121,7 @@ keeps-of : (g : given.Over) (c : goal.After-levels-in-Ok-2-1 g) → IsTrue (g.H.
 keeps-of g c = λ told. c.resolve.ensures.keeps (disk_of g.H.Host c.args.self.now.pager.levels.disk.host.now c.args.self.now.pager.levels.disk.rest) (c.requires.sound.over.backed told) (there-of g c told)
 
 calm-of : (g : given.Over) (c : goal.After-levels-in-Ok-2-1 g) → IsCalm c.args.self.now.pager.pinned (core_of c.args.self.now.pager.levels.parts) (core_of c.resolve.new.p)
-calm-of g c = store-calm c.args.self.now.pager.pinned c.args.s.0 c.args.at.place (core_of c.args.self.now.pager.levels.parts) (core_of c.resolve.new.p) c.requires.sound.kept.parts.core c.resolve.ensures.parts.core c.resolve.ensures.within c.requires.lambda.place (ap (λ (e : Entry). place_of e.state) c.resolve.ensures.entry) (ap (λ (e : Entry). e.name) c.resolve.ensures.entry)
+calm-of g c = store-calm c.args.self.now.pager.pinned c.args.s.0 c.args.at.place (core_of c.args.self.now.pager.levels.parts) (core_of c.resolve.new.p) c.requires.sound.kept.parts.core c.resolve.ensures.parts.core c.resolve.ensures.resolves.within c.requires.lambda.place (ap (λ (e : Entry). place_of e.state) c.resolve.ensures.resolves.entry) (ap (λ (e : Entry). e.name) c.resolve.ensures.resolves.entry)
 
 pub returns-else-not-is_below-clause-quiet : goal.returns-else-not-is_below-clause-quiet
 unfolding loom_told
@@ -131,13 +131,13 @@ pub returns-else-not-is_below-clause-sound : goal.returns-else-not-is_below-clau
 returns-else-not-is_below-clause-sound g c =
     let m = c.args.self.now in
     record {
-      kept = calm-kept m.pager.levels.parts c.resolve.new.p m.regs m.pager.pinned m.ledger c.requires.sound.kept (calm-of g c) c.resolve.ensures.parts (c.resolve.ensures.within.tight c.requires.sound.kept.tight) c.resolve.ensures.size;
+      kept = calm-kept m.pager.levels.parts c.resolve.new.p m.regs m.pager.pinned m.ledger c.requires.sound.kept (calm-of g c) c.resolve.ensures.parts (c.resolve.ensures.resolves.within.tight c.requires.sound.kept.tight) c.resolve.ensures.resolves.room.size;
       over = record {
         stands = c.in-Ok.ensures.stands;
         backed = λ told. subst (λ (k : Disk). IsBacked (core_of c.resolve.new.p) k) (sym c.in-Ok.ensures.same) (keeps-of g c told).backed;
         counted = λ told.
             let was = c.requires.sound.over.counted told in
-            let same = fresh-stays (core_of m.pager.levels.parts) (core_of c.resolve.new.p) c.args.s.0 c.resolve.ensures.within.about (ap fresh_by c.resolve.ensures.entry) in
+            let same = fresh-stays (core_of m.pager.levels.parts) (core_of c.resolve.new.p) c.args.s.0 c.resolve.ensures.resolves.within.about (ap fresh_by c.resolve.ensures.resolves.entry) in
             let rest : disk_held c.read_copy.new.disk.rest ≡ disk_held m.pager.levels.disk.rest = ap disk_held c.in-Ok.ensures.rest in
             omega (arith, was, same, rest);
         roomy = let was = c.requires.sound.over.roomy in let rest : disk_room c.read_copy.new.disk.rest ≡ disk_room m.pager.levels.disk.rest = ap disk_room c.in-Ok.ensures.rest in omega (arith, was, rest);
@@ -145,12 +145,12 @@ returns-else-not-is_below-clause-sound g c =
         valued = λ told. subst (λ (d : Disk). IsValued d) (sym (ap (λ (k : Disk). held (core_of c.resolve.new.p) k) c.in-Ok.ensures.same ∙ (keeps-of g c told).held)) (c.requires.sound.over.valued told);
       };
       soon = c.requires.sound.soon;
-      exact = exact-brought g.H.Host m.pager.levels.parts c.resolve.new.p m.pager.levels.disk.host.now c.read_copy.new.disk.host.now m.pager.levels.disk.rest c.read_copy.new.disk.rest c.args.s.0 m.ledger.next c.requires.sound.exact c.in-Ok.ensures.rest c.in-Ok.ensures.read c.resolve.ensures.parts (keeps-of g c) c.resolve.ensures.naming c.resolve.ensures.within;
+      exact = exact-brought g.H.Host m.pager.levels.parts c.resolve.new.p m.pager.levels.disk.host.now c.read_copy.new.disk.host.now m.pager.levels.disk.rest c.read_copy.new.disk.rest c.args.s.0 m.ledger.next c.requires.sound.exact c.in-Ok.ensures.rest c.in-Ok.ensures.read c.resolve.ensures.parts (keeps-of g c) c.resolve.ensures.resolves.naming c.resolve.ensures.resolves.within;
       thin = thin-quiet g.H.Host c.args.self.now _ c.requires.sound.thin (λ on. on) (returns-else-not-is_below-clause-quiet g c);
     }
 
 pub returns-else-not-is_below-clause-mark : goal.returns-else-not-is_below-clause-mark
-returns-else-not-is_below-clause-mark g c = ap (λ (e : Entry). e.flags.marked) c.resolve.ensures.entry
+returns-else-not-is_below-clause-mark g c = ap (λ (e : Entry). e.flags.marked) c.resolve.ensures.resolves.entry
 
 pub returns-else-not-is_below-clause-at : goal.returns-else-not-is_below-clause-at
 returns-else-not-is_below-clause-at g c =
@@ -160,8 +160,8 @@ returns-else-not-is_below-clause-at g c =
     let fields = c.resolve.ensures.fields p c.requires.lambda.place in (
       fields.0,
       record {
-        place = ap (λ (e : Entry). place_of e.state) c.resolve.ensures.entry ∙ c.requires.lambda.place;
-        word = ap (λ (e : Entry). slice_get (pointers e.kind ((core_of c.resolve.new.p).chunks p).words) c.args.i) c.resolve.ensures.entry
+        place = ap (λ (e : Entry). place_of e.state) c.resolve.ensures.resolves.entry ∙ c.requires.lambda.place;
+        word = ap (λ (e : Entry). slice_get (pointers e.kind ((core_of c.resolve.new.p).chunks p).words) c.args.i) c.resolve.ensures.resolves.entry
             ∙ ap (λ (ws : List ℕ). slice_get ws c.args.i) fields.1 ∙ set-here (pointers k ((core_of m.pager.levels.parts).chunks p).words) c.args.i fields.0 0 c.requires.lambda.word;
       },
     )
@@ -198,12 +198,12 @@ returns-else-not-is_below-clause-peek g c =
     let now = c.resolve.ensures.parts.core in
     record {
       gentle = record {
-        remains = store-remains c.args.s.0 x y c.resolve.ensures.within (ap (λ (e : Entry). place_of e.state) c.resolve.ensures.entry) (ap (λ (e : Entry). e.name) c.resolve.ensures.entry);
+        remains = store-remains c.args.s.0 x y c.resolve.ensures.resolves.within (ap (λ (e : Entry). place_of e.state) c.resolve.ensures.resolves.entry) (ap (λ (e : Entry). e.name) c.resolve.ensures.resolves.entry);
         read = c.in-Ok.ensures.read;
-        cache = cache-same x y (found m.ledger.rows) m.ledger.mark m.ledger.begun core now (within-marks x y c.args.s.0 core now c.resolve.ensures.within) c.requires.sound.kept.cached;
+        cache = cache-same x y (found m.ledger.rows) m.ledger.mark m.ledger.begun core now (within-marks x y c.args.s.0 core now c.resolve.ensures.resolves.within) c.requires.sound.kept.cached;
       };
       fetches = fetched-same m _ refl;
-      none = came-remains x y (stored-came x y c.args.s.0 c.resolve.ensures.within (ap (λ (e : Entry). place_of e.state) c.resolve.ensures.entry) (ap (λ (e : Entry). e.name) c.resolve.ensures.entry));
+      none = came-remains x y (stored-came x y c.args.s.0 c.resolve.ensures.resolves.within (ap (λ (e : Entry). place_of e.state) c.resolve.ensures.resolves.entry) (ap (λ (e : Entry). e.name) c.resolve.ensures.resolves.entry));
     }
 
 pub returns-else-not-is_below-clause-below : goal.returns-else-not-is_below-clause-below
@@ -223,7 +223,7 @@ returns-in-Err-clause-damage g c =
     refusal-damage (g.H.Host.tells Work) (g.H.Host.faults m.pager.levels.disk.host.now Work) (g.H.Host.faults c.read_copy.new.disk.host.now Work) m.pager.levels.disk.rest c.refuse.new.self.pager.levels.disk.rest ((core_of m.pager.levels.parts).entries c.args.s.0).name c.in-Err.f c.refusal_of-f.result c.refuse.result c.in-Err.ensures.fault c.in-Err.ensures.damage (c.refuse.ensures.rest ∙ c.in-Err.ensures.rest) c.refusal_of-f.ensures c.refuse.ensures.result
 
 pub returns-else-not-is_below-clause-named : goal.returns-else-not-is_below-clause-named
-returns-else-not-is_below-clause-named g c = ap (λ (e : Entry). e.name) c.resolve.ensures.entry
+returns-else-not-is_below-clause-named g c = ap (λ (e : Entry). e.name) c.resolve.ensures.resolves.entry
 
 pub returns-then-e-clause-brings : goal.returns-then-e-clause-brings
 unfolding fetched
@@ -244,5 +244,5 @@ returns-in-Err-clause-brings g c = c.refuse.ensures.brings
 pub invariant_of-levels-in-Ok : goal.invariant_of-levels-in-Ok
 invariant_of-levels-in-Ok g c =
     let l = c.args.self.now.pager.levels in
-    let entry = c.resolve.ensures.entry in
-    record { whole = store-whole l.parts c.resolve.new.p c.args.s.0 c.args.at.place l.whole c.resolve.ensures.parts c.resolve.ensures.within c.requires.lambda.place (ap (λ (e : Entry). place_of e.state) entry) (ap (λ (e : Entry). e.name) entry) }
+    let entry = c.resolve.ensures.resolves.entry in
+    record { whole = store-whole l.parts c.resolve.new.p c.args.s.0 c.args.at.place l.whole c.resolve.ensures.parts c.resolve.ensures.resolves.within c.requires.lambda.place (ap (λ (e : Entry). place_of e.state) entry) (ap (λ (e : Entry). e.name) entry) }
