@@ -13,6 +13,7 @@ pub mod RegisterLaws
 pub mod RoomLaws
 pub mod ServesLaws
 pub mod SpeaksLaws
+pub mod StackLaws
 pub mod Steps
 pub mod StoreLaws
 pub mod SwapLaws

@@ -13,7 +13,7 @@ use Rattle.long_names.specs.Objects.{int_of, field_of, pointers_of, literals_of,
 use Rattle.long_names.specs.Heap.{Heap}
 use Rattle.long_names.specs.State.{object_at, part_at, HasPart}
 use Rattle.object_memory.specs.Told.{Told}
-use Rattle.object_memory.specs.Shape.{HasPartAt, IsPartAt, IsTestAt, field_count, literals_count}
+use Rattle.object_memory.specs.Shape.{HasPartAt, IsPartAt, IsTestAt, field_count, literals_count, number_in}
 use Rattle.object_memory.proofs.Callers.{field_there}
 use Rattle.blue_model.specs.declared.cause.Cause.TheVariants.{Shape}
 use Rattle.blue_model.specs.declared.cpu.Cpu.{Cpu}
@@ -259,9 +259,42 @@ field_lacking {t} {r} {answer} i test is told =
 -- ---- numbers in fields
 
 -- the number that a field holds is the number that its value is
+abbrev number_of : ℕ → Option (List Value) → Option ℤ
+number_of i x = option_and_then int_of (option_and_then (λ (values : List Value). slice_get values i) x)
+
+-- the number that a field of the values that were found is
+number_there : (h : Heap) (v : Value) (n i : ℕ) (x : HasFields h v n) → part_at h v (number_in i) ≡ number_of i (Some x.values)
+number_there h v n i x = ap (option_and_then (λ (o : Object). number_in i o.body)) x.at ∙ ap (number_of i) x.is
+
 pub number_by : {old new : Told} {cpu now : Cpu} {answer : Result ℤ Stop} (least i : ℕ) (v : Value) → Serves old cpu new now (part Shape (field least i) v >>= (λ x. given Shape (int_of x))) answer → Serves old cpu new now (part Shape (number least i) v) answer
 unfolding number field
 number_by {old} {new} {cpu} {now} {answer} least i v s = part_steps Shape (λ o. option_and_then (λ (values : List Value). slice_get values i) (shaped least o)) int_of v s
+
+-- where the number of values was found, the number in a field is that of the body,
+pub number_is : {t : Told} {r : ℕ} {found : Option ℕ} (least i n : ℕ) → IsPartAt t r field_count found → found ≡ Some n → least ≤ n → IsTrue t.tells → option_and_then (number least i) (object_at t.heap (t.regs r)) ≡ part_at t.heap (t.regs r) (number_in i)
+unfolding number
+number_is {t} {r} {found} least i n is e low told =
+    let x = has_fields t.heap (t.regs r) n (is.there told ∙ e) in
+    shaped_is t.heap (t.regs r) least n (number_of i) low x ∙ sym (number_there t.heap (t.regs r) n i x)
+
+-- also where it was tested to have the field;
+pub number_tested : {t : Told} {r : ℕ} (least i : ℕ) → HasPartAt t r pointers_of (λ xs. (least ≤ length xs) × (i < length xs)) → IsTrue t.tells → option_and_then (number least i) (object_at t.heap (t.regs r)) ≡ part_at t.heap (t.regs r) (number_in i)
+unfolding number
+number_tested {t} {r} least i known told =
+    let has = known.there told in
+    let x = has_fields t.heap (t.regs r) (length has.0) (counted t.heap (t.regs r) has.0 has.1) in
+    shaped_is t.heap (t.regs r) least (length has.0) (number_of i) has.2.0 x ∙ sym (number_there t.heap (t.regs r) (length has.0) i x)
+
+-- and where there is one, the field holds it
+pub number_held : (least i : ℕ) (z : ℤ) (x : Option Object) → option_and_then (number least i) x ≡ Some z → option_and_then (field least i) x ≡ Some (Int z)
+unfolding number field
+number_held least i z None e = let no : ◌≡◌ {A = Option ℤ} None (Some z) = e in absurd (cc)
+number_held least i z (Some o) e = go (option_and_then (λ (values : List Value). slice_get values i) (shaped least o)) e
+  where
+    go : (v : Option Value) → option_and_then int_of v ≡ Some z → v ≡ Some (Int z)
+    go None e = let no : ◌≡◌ {A = Option ℤ} None (Some z) = e in absurd (cc)
+    go (Some (Int y)) e = let same : y ≡ z = cc in ap (λ x. Some (Int x)) same
+    go (Some (Ref n)) e = let no : ◌≡◌ {A = Option ℤ} None (Some z) = e in absurd (cc)
 
 -- ---- homes
 

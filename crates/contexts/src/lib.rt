@@ -22,5 +22,5 @@ pub use blue_model::{Answer, Cause, Cpu};
 pub use code::{fetch, jump};
 pub use context::{active_process, back, enter, park, scheduler, start};
 pub use registers::{clear, set_arguments};
-pub use stacks::{pop, pop_top, push, put_stack, stack};
+pub use stacks::{peek_stack, pop, pop_top, push, put_stack, stack};
 pub use stop::Stop;

@@ -28,7 +28,7 @@ use object_memory::{MemFault, ObjectMemory, Reg, shape};
 /// How many fields the object of pointers has that a register names, which comes in unless it is at hand. None where the register names
 /// no such object.
 #[inline(always)]
-fn fields_of<M: ObjectMemory>(m: &mut M, of: Reg) -> Result<Option<u32>, MemFault>
+pub(crate) fn fields_of<M: ObjectMemory>(m: &mut M, of: Reg) -> Result<Option<u32>, MemFault>
     requires fit { IsFit M.ObjectMemory m.old }
     ensures looks { OnOk result (Looks [] (M.told m.old) (M.told m.new)) }
     ensures fields { IfOk result (FindsPart (M.told m.old) (M.told m.new) of field_count) }
@@ -102,7 +102,7 @@ pub(crate) fn field_within<M: ObjectMemory>(
 }
 
 /// The number in field i of the object of pointers that a register names. It has at least so many fields. The field is loaded into a
-/// scratch register.
+/// scratch register, unless the number is at hand.
 #[inline(always)]
 pub fn number<M: ObjectMemory>(m: &mut M, to: Reg, of: Reg, least: u32, i: u32) -> Result<i16, Stop>
     requires fit { IsFit M.ObjectMemory m.old }
@@ -112,15 +112,17 @@ pub fn number<M: ObjectMemory>(m: &mut M, to: Reg, of: Reg, least: u32, i: u32) 
     ensures range { IfOk result IsSmallInteger }
     ensures fit { StaysFit M.ObjectMemory m.old m.new result }
 {
-    field(m, to, of, least, i)?;
-    let Some(number) = m.as_int(to) else {
+    let Some(len) = fields_of(m, of)? else {
         return Err(Stop::Stuck(Cause::Shape));
     };
-    Ok(number)
+    if len < least || len <= i {
+        return Err(Stop::Stuck(Cause::Shape));
+    }
+    number_within(m, to, of, least, i)
 }
 
 /// The number in field i of an object of pointers that was asked for its length: it has at least so many fields, and this one. The field
-/// is loaded into a scratch register.
+/// is loaded into a scratch register, unless the number is at hand.
 #[inline(always)]
 pub(crate) fn number_within<M: ObjectMemory>(
     m: &mut M,
@@ -137,6 +139,9 @@ pub(crate) fn number_within<M: ObjectMemory>(
     ensures range { IfOk result IsSmallInteger }
     ensures fit { StaysFit M.ObjectMemory m.old m.new result }
 {
+    if let Some(number) = m.number_at(of, i) {
+        return Ok(number);
+    }
     field_within(m, to, of, least, i)?;
     let Some(number) = m.as_int(to) else {
         return Err(Stop::Stuck(Cause::Shape));
@@ -313,7 +318,10 @@ pub fn store_field<M: ObjectMemory>(m: &mut M, of: Reg, i: u32, from: Reg) -> Re
     ensures regs { OnOk result ((M.told m.new).regs ≡ (M.told m.old).regs) }
     ensures fit { StaysFit M.ObjectMemory m.old m.new result }
 {
-    if !shape::has_field(m, of, i)? {
+    let Some(len) = fields_of(m, of)? else {
+        return Err(Stop::Stuck(Cause::Shape));
+    };
+    if len <= i {
         return Err(Stop::Stuck(Cause::Shape));
     }
     m.set_field(of, i, from)?;

@@ -12,6 +12,7 @@ ghost use Rattle.contexts.specs.Serves.{Serves, StaysSound, with_found};
 ghost use Rattle.object_memory.specs.Calls.{IsFit};
 ghost use Rattle.contexts.specs.Calls.{StaysFit};
 
+use crate::parts::fields_of;
 use crate::stop::Stop;
 use object_memory::{ObjectMemory, Reg, shape};
 
@@ -23,7 +24,7 @@ pub fn peek_size<M: ObjectMemory>(m: &mut M, of: Reg, least: u32) -> Result<Opti
     ensures bound { IfOk result (λ len. IfSome len (λ n. n < MOST_FIELDS + 1)) }
     ensures fit { StaysFit M.ObjectMemory m.old m.new result }
 {
-    let Some(len) = shape::fields(m, of)? else {
+    let Some(len) = fields_of(m, of)? else {
         return Ok(None);
     };
     if len < least {
@@ -47,7 +48,7 @@ pub fn peek_field<M: ObjectMemory>(
     ensures looks { OnOk result (Looks (to ∷ []) (M.told m.old) (M.told m.new)) }
     ensures fit { StaysFit M.ObjectMemory m.old m.new result }
 {
-    let Some(len) = shape::fields(m, of)? else {
+    let Some(len) = fields_of(m, of)? else {
         return Ok(false);
     };
     if len < least || len <= i {
@@ -58,7 +59,7 @@ pub fn peek_field<M: ObjectMemory>(
 }
 
 /// The number in field i of the object of pointers that a register names, where it has at least so many fields, and a number there.
-/// The field is loaded into a scratch register.
+/// The field is loaded into a scratch register, unless the number is at hand.
 #[inline(always)]
 pub fn peek_number<M: ObjectMemory>(
     m: &mut M,
@@ -74,9 +75,16 @@ pub fn peek_number<M: ObjectMemory>(
     ensures range { IfOk result (λ found. IfSome found IsSmallInteger) }
     ensures fit { StaysFit M.ObjectMemory m.old m.new result }
 {
-    if !peek_field(m, to, of, least, i)? {
+    let Some(len) = fields_of(m, of)? else {
+        return Ok(None);
+    };
+    if len < least || len <= i {
         return Ok(None);
     }
+    if let Some(number) = m.number_at(of, i) {
+        return Ok(Some(number));
+    }
+    m.field(to, of, i)?;
     Ok(m.as_int(to))
 }
 

@@ -1,5 +1,7 @@
 // The stack of the active context.
-ghost use Rattle.std.specs.Prelude.{◌≡◌, ◌≤◌, [], ◌∷◌, OnOk};
+ghost use Rattle.std.specs.Prelude.{◌≡◌, ◌≤◌, [], ◌∷◌, Ok, OnOk, IfSome};
+ghost use Rattle.long_names.specs.Words.{IsSmallInteger};
+ghost use Rattle.long_names.specs.declared.value.Value.TheVariants.{Int};
 ghost use Rattle.object_memory.specs.Told.{Told, IsReady};
 ghost use Rattle.object_memory.specs.Shape.{Looks};
 ghost use Rattle.long_names.specs.declared.limits.TheConstants.{MACHINE_REGISTERS};
@@ -49,6 +51,18 @@ pub fn stack<M: ObjectMemory>(m: &mut M, cpu: &Cpu, to: Reg, depth: u32) -> Resu
     };
     field_within(m, to, Reg::ACTIVE_CONTEXT, 0, place)?;
     Ok(())
+}
+
+/// The number so much below the top of the stack, where it is at hand. None says nothing.
+#[inline(always)]
+pub fn peek_stack<M: ObjectMemory>(m: &M, cpu: &Cpu, depth: u32) -> Option<i16>
+    requires { M.sound m.now }
+    ensures serves { IfSome result (λ number. IsReady (M.told m.now) → Serves (M.told m.now) cpu.now (M.told m.now) cpu.now (model.stack depth) (Ok (Int number))) }
+    ensures range { IfSome result IsSmallInteger }
+{
+    let len = m.field_count(Reg::ACTIVE_CONTEXT)?;
+    let place = place_at(cpu, depth, len)?;
+    m.number_at(Reg::ACTIVE_CONTEXT, place)
 }
 
 /// Puts the value of a register so much below the top of the stack. Stuck with Stack where that field is none of the stack.

@@ -2,7 +2,6 @@ use Rattle.std.proofs.Common.{◌≤◌, ◌<◌, [], ◌∷◌, Some, None, is_
 use Rattle.long_names.specs.Objects.{pointers_of}
 use Rattle.long_names.specs.Access.{Field}
 use Rattle.object_memory.proofs.Callers.{may_field}
-use Rattle.object_memory.proofs.LooksLaws.{Looks-read}
 use Rattle.object_memory.proofs.ShapeLaws.{has_sized}
 use Rattle.blue_model.specs.Parts.{field}
 use Rattle.contexts.proofs.ReadLaws.{scratch, loaded, looks_loaded}
@@ -11,17 +10,17 @@ use Rattle.contexts.proofs.PeekLaws.{peek_serves, first_refused, then_refused, e
 use Rattle.contexts.proofs.peeks.peek_field.Goals as goal
 
 pub returns-in_err-len-clause-serves : goal.returns-in_err-len-clause-serves
-returns-in_err-len-clause-serves g c = λ cpu. exits_found _ _ c.from_residual.ensures.1 (first_refused (field c.args.least c.args.i) c.args.of c.requires.fit.ready c.in_err-len.ensures.read)
+returns-in_err-len-clause-serves g c = λ cpu. exits_found _ _ c.from_residual.ensures.1 (first_refused (field c.args.least c.args.i) c.args.of c.requires.fit.ready c.in_err-len.ensures.refused)
 
 pub returns-in_default-clause-serves : goal.returns-in_default-clause-serves
 returns-in_default-clause-serves g c = λ cpu.
     let found = c.in_ok-len.ensures in
-    peek_serves [] (field c.args.least c.args.i) c.args.of None refl c.requires.fit.ready found.fit.ready (Looks-read _ _ c.args.of found.read) (field_none c.args.least c.args.i found.fields.before c.in_default.is)
+    peek_serves [] (field c.args.least c.args.i) c.args.of None refl c.requires.fit.ready found.fit.ready found.looks (field_none c.args.least c.args.i found.fields.before c.in_default.is)
 
 pub returns-then-len-least-clause-serves : goal.returns-then-len-least-clause-serves
 returns-then-len-least-clause-serves g c = λ cpu.
     let found = c.in_ok-len.ensures in
-    peek_serves [] (field c.args.least c.args.i) c.args.of None refl c.requires.fit.ready found.fit.ready (Looks-read _ _ c.args.of found.read) (elim c.then-len-least.either [
+    peek_serves [] (field c.args.least c.args.i) c.args.of None refl c.requires.fit.ready found.fit.ready found.looks (elim c.then-len-least.either [
       | inl few ↦ field_few c.args.least c.args.i c.in-Some.len found.fields.before c.in-Some.is few
       | inr past ↦ field_past c.args.least c.args.i c.in-Some.len found.fields.before c.in-Some.is past.1
     ])
@@ -34,19 +33,19 @@ field-requires-clause-may g c =
 pub returns-in_err-field-clause-serves : goal.returns-in_err-field-clause-serves
 returns-in_err-field-clause-serves g c = λ cpu.
     let found = c.in_ok-len.ensures in
-    exits_found _ _ c.from_residual-in_err-field.ensures.1 (then_refused [] (field c.args.least c.args.i) c.args.of (Field c.args.to c.args.of c.args.i) refl refl refl c.requires.fit.ready found.fit.ready (Looks-read _ _ c.args.of found.read) (found.fields.after.name (ap is_some c.in-Some.is)) c.in_err-field.ensures.access.called)
+    exits_found _ _ c.from_residual-in_err-field.ensures.1 (then_refused [] (field c.args.least c.args.i) c.args.of (Field c.args.to c.args.of c.args.i) refl refl refl c.requires.fit.ready found.fit.ready found.looks (found.fields.after.name (ap is_some c.in-Some.is)) c.in_err-field.ensures.access.called)
 
 pub returns-clause-serves : goal.returns-clause-serves
 returns-clause-serves g c = λ cpu.
     let t = g.M.ObjectMemory.told c.args.m.now in
-    let u = g.M.ObjectMemory.told c.fields.new.m in
+    let u = g.M.ObjectMemory.told c.fields_of.new.m in
     let w = g.M.ObjectMemory.told c.field.new.self in
     let to = c.args.to in
     let of = c.args.of in
     let i = c.args.i in
     let found = c.in_ok-len.ensures in
     let load = c.in_ok-field.ensures in
-    let first = Looks-read t u of found.read in
+    let first = found.looks in
     let low : c.args.least ≤ c.in-Some.len = omega (arith, c.if-len-least.false) in
     peek_serves (to ∷ []) (field c.args.least i) of (Some (w.regs to)) (scratch to c.requires.scratch) c.requires.fit.ready load.fit.ready (looks_loaded [] t u w to of i found.fit.ready first load.access.called)
     (λ told. field_is c.args.least i c.in-Some.len found.fields.before c.in-Some.is low told ∙ loaded [] t u w to of i found.fit.ready first refl load.access.called told)
@@ -54,7 +53,7 @@ returns-clause-serves g c = λ cpu.
 pub returns-clause-looks : goal.returns-clause-looks
 returns-clause-looks g c =
     let t = g.M.ObjectMemory.told c.args.m.now in
-    let u = g.M.ObjectMemory.told c.fields.new.m in
+    let u = g.M.ObjectMemory.told c.fields_of.new.m in
     let w = g.M.ObjectMemory.told c.field.new.self in
     let found = c.in_ok-len.ensures in
-    looks_loaded [] t u w c.args.to c.args.of c.args.i found.fit.ready (Looks-read t u c.args.of found.read) c.in_ok-field.ensures.access.called
+    looks_loaded [] t u w c.args.to c.args.of c.args.i found.fit.ready found.looks c.in_ok-field.ensures.access.called
