@@ -41,3 +41,34 @@ masks-rule f neither dest source both s d j hs hd n e u b =
     (four (left_bit neither j) (left_bit dest j) (left_bit source j) (left_bit both j) s d (f s d)
     (left_bit-lt neither j) (left_bit-lt dest j) (left_bit-lt source j) (left_bit-lt both j) hs hd
     (λ p q. rw (p, q) (sym n)) (λ p q. rw (p, q) (sym e)) (λ p q. rw (p, q) (sym u)) (λ p q. rw (p, q) (sym b)))
+
+-- the word that two masks make
+pub filled-word : (d keep flip j : ℕ) → left_bit (bit_xor (bit_and d keep) flip) j ≡ (min (left_bit d j) (left_bit keep j) + left_bit flip j) % 2
+filled-word d keep flip j = simp (left_bit-xor, left_bit-and) refl
+
+-- Where the source's bit is known, two masks are enough.
+enough : (k f l g s d : ℕ) → k < 2 → f < 2 → l < 2 → g < 2 → s < 2 → d < 2
+    → (min d ((k + min s l) % 2) + (f + min s g) % 2) % 2 ≡ ((min d k + f) % 2 + min s ((min d l + g) % 2)) % 2
+enough k f l g s d lk lf ll lg ls ld =
+    ⊎_elim
+    (λ (z : s < 1).
+    let s0 : s ≡ 0 = omega arith in
+    ⊎_elim
+    (λ (y : d < 1). let d0 : d ≡ 0 = omega arith in rw (s0, d0) (omega (arith, lf)))
+    (λ (y : 1 ≤ d). let d1 : d ≡ 1 = omega arith in rw (s0, d1) (omega (arith, lk, lf)))
+    (cases_lt d 1))
+    (λ (z : 1 ≤ s).
+    let s1 : s ≡ 1 = omega arith in
+    ⊎_elim
+    (λ (y : d < 1). let d0 : d ≡ 0 = omega arith in rw (s1, d0) (omega (arith, lf, lg)))
+    (λ (y : 1 ≤ d). let d1 : d ≡ 1 = omega arith in rw (s1, d1) (omega (arith, lk, lf, ll, lg)))
+    (cases_lt d 1))
+    (cases_lt s 1)
+
+pub masks-filling : (keep flip source_keep source_flip s d j : ℕ) → d < 2
+    → (min d (left_bit (bit_xor keep (bit_and s source_keep)) j) + left_bit (bit_xor flip (bit_and s source_flip)) j) % 2
+    ≡ ((min d (left_bit keep j) + left_bit flip j) % 2 + min (left_bit s j) ((min d (left_bit source_keep j) + left_bit source_flip j) % 2)) % 2
+masks-filling keep flip source_keep source_flip s d j h =
+    simp (left_bit-xor, left_bit-and)
+    (enough (left_bit keep j) (left_bit flip j) (left_bit source_keep j) (left_bit source_flip j) (left_bit s j) d
+    (left_bit-lt keep j) (left_bit-lt flip j) (left_bit-lt source_keep j) (left_bit-lt source_flip j) (left_bit-lt s j) h)

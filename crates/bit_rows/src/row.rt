@@ -2,7 +2,6 @@
 // that are the same for all of them, and then the bits before and behind are put back into these two.
 ghost use Rattle.std.specs.Prelude.{◌≡◌, ◌+◌, ◌-◌, ◌*◌, ◌/◌, ◌^◌, ◌<◌, ◌≤◌, ◌⊎◌, ℕ, List, length, min, slice_index, if◌then◌else◌};
 ghost use Rattle.long_names.specs.declared.limits.TheConstants.{MOST_FIELDS};
-ghost use Rattle.blue_model.specs.declared.limits.TheConstants.{COMBINATION_RULES};
 ghost use Rattle.blue_model.specs.Forms.{left_bit, bit};
 ghost use Rattle.blue_model.specs.BitBlt.{rule_bit};
 ghost use Rattle.bit_rows.specs.Masks.{AreOf};
@@ -71,8 +70,9 @@ fn fill_words(row: &mut [u16], first: usize, past: usize, halftone: u16, masks: 
     ensures rest { (k : ℕ) → ((k < first) ⊎ (past ≤ k)) → slice_index row.new k ≡ slice_index row.old k }
     ensures fits { (k : ℕ) → slice_index row.new k < 2 ^ 16 }
 {
+    let (keep, flip) = masks.filling(halftone);
     for i in first..past {
-        row[i] = masks.make(halftone, row[i]);
+        row[i] = (row[i] & keep) ^ flip;
     }
 }
 
@@ -101,7 +101,8 @@ fn put_back(
     row[past - 1] = between(right, row[past - 1], 0, edge_in_word(to, past - 1));
 }
 
-/// Changes the bits of a row from one up to another: source bits begin `skip` bits into the source's words.
+/// Changes the bits of a row from one up to another by the masks of a rule: source bits begin `skip` bits into the source's words.
+#[inline(always)]
 pub fn blend_row(
     row: &mut [u16],
     source: &[u16],
@@ -109,39 +110,38 @@ pub fn blend_row(
     from: usize,
     to: usize,
     halftone: u16,
-    rule: u8,
+    masks: Masks,
 )
-    requires rule { rule < COMBINATION_RULES }
     requires ordered { from ≤ to }
     requires small { length row.old ≤ MOST_FIELDS }
     requires room { skip / 16 + length row.old < length source.now }
     ensures fits { (k : ℕ) → slice_index row.new k < 2 ^ 16 }
-    ensures bits { (n : ℕ) → n < 16 * length row.old → bit row.new n ≡ row_bit rule source.now skip halftone from to row.old n }
+    ensures bits { (rule : ℕ) → AreOf rule masks → (n : ℕ) → n < 16 * length row.old → bit row.new n ≡ row_bit rule source.now skip halftone from to row.old n }
 {
     let first = from / 16;
     let past = word_past(to, row.len());
     if first < past {
         let left = row[first];
         let right = row[past - 1];
-        make_words(row, first, past, source, skip, halftone, Masks::of(rule));
+        make_words(row, first, past, source, skip, halftone, masks);
         put_back(row, first, past, from, to, left, right);
     }
 }
 
-/// Changes the bits of a row from one up to another, where all source bits are 1.
-pub fn fill_row(row: &mut [u16], from: usize, to: usize, halftone: u16, rule: u8)
-    requires rule { rule < COMBINATION_RULES }
+/// Changes the bits of a row from one up to another by the masks of a rule, where all source bits are 1.
+#[inline(always)]
+pub fn fill_row(row: &mut [u16], from: usize, to: usize, halftone: u16, masks: Masks)
     requires ordered { from ≤ to }
     requires small { length row.old ≤ MOST_FIELDS }
     ensures fits { (k : ℕ) → slice_index row.new k < 2 ^ 16 }
-    ensures bits { (n : ℕ) → n < 16 * length row.old → bit row.new n ≡ fill_bit rule halftone from to row.old n }
+    ensures bits { (rule : ℕ) → AreOf rule masks → (n : ℕ) → n < 16 * length row.old → bit row.new n ≡ fill_bit rule halftone from to row.old n }
 {
     let first = from / 16;
     let past = word_past(to, row.len());
     if first < past {
         let left = row[first];
         let right = row[past - 1];
-        fill_words(row, first, past, halftone, Masks::of(rule));
+        fill_words(row, first, past, halftone, masks);
         put_back(row, first, past, from, to, left, right);
     }
 }

@@ -1,5 +1,5 @@
 // One word of a row: the rule, the mask, and a source word put together from two.
-ghost use Rattle.std.specs.Prelude.{◌≡◌, ◌+◌, ◌*◌, ◌/◌, ◌<◌, ◌≤◌, ℕ, [], ◌∷◌, if◌then◌else◌, nat_lt};
+ghost use Rattle.std.specs.Prelude.{◌≡◌, ◌+◌, ◌*◌, ◌/◌, ◌%◌, ◌<◌, ◌≤◌, ℕ, min, [], ◌∷◌, if◌then◌else◌, nat_lt};
 ghost use Rattle.blue_model.specs.declared.limits.TheConstants.{COMBINATION_RULES};
 ghost use Rattle.blue_model.specs.Forms.{left_bit, bit};
 ghost use Rattle.blue_model.specs.BitBlt.{rule_bit};
@@ -72,7 +72,7 @@ pub fn between(old: u16, new: u16, low: u8, high: u8) -> u16
 /// A rule for all bits of two words at once. Where the source has 0, a bit of the destination stays if its bit in `keep` is 1, and is 0
 /// otherwise; then it is turned if its bit in `flip` is 1. The others say likewise what a 1 in the source turns of that.
 #[derive(Clone, Copy)]
-pub(crate) struct Masks {
+pub struct Masks {
     keep: u16,
     flip: u16,
     source_keep: u16,
@@ -82,7 +82,7 @@ pub(crate) struct Masks {
 impl Masks {
     /// The masks of a rule, by what it makes of words of zeros and of ones.
     #[inline(always)]
-    pub(crate) fn of(rule: u8) -> Masks
+    pub fn of(rule: u8) -> Masks
         requires { rule < COMBINATION_RULES }
         ensures { AreOf rule result }
     {
@@ -104,5 +104,15 @@ impl Masks {
         ensures { (rule j : ℕ) → AreOf rule self → j < 16 → left_bit result j ≡ rule_bit rule (left_bit s j) (left_bit d j) }
     {
         ((d & self.keep) ^ self.flip) ^ (s & ((d & self.source_keep) ^ self.source_flip))
+    }
+    /// What of a destination bit stays and what is turned then, where the source has this word.
+    #[inline(always)]
+    pub(crate) fn filling(self, s: u16) -> (u16, u16)
+        ensures { (rule j d : ℕ) → AreOf rule self → j < 16 → d < 2 → (min d (left_bit result.0 j) + left_bit result.1 j) % 2 ≡ rule_bit rule (left_bit s j) d }
+    {
+        (
+            self.keep ^ (s & self.source_keep),
+            self.flip ^ (s & self.source_flip),
+        )
     }
 }

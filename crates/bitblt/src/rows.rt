@@ -6,6 +6,7 @@ ghost use Rattle.object_memory.specs.Shape.{Looks};
 ghost use Rattle.blue_model.specs.declared.cpu.Cpu.{Cpu as Numbers};
 ghost use Rattle.blue_model.specs.Forms.{bit};
 ghost use Rattle.blue_model.specs.BitBlt.{put_words};
+ghost use Rattle.bit_rows.specs.Masks.{AreOf};
 ghost use Rattle.contexts.specs.Serves.{Serves, StaysSound};
 ghost use Rattle.forms.specs.declared.form.TheConstants.{HALFTONE_WORDS};
 ghost use Rattle.bitblt.specs.Transfers.{Fits, source_pixel, skip_of, run_length, row_words, words_after};
@@ -15,7 +16,7 @@ ghost use Rattle.object_memory.specs.Calls.{IsFit};
 ghost use Rattle.contexts.specs.Calls.{StaysFit};
 
 use crate::transfer::Transfer;
-use bit_rows::{blend_row, fill_row};
+use bit_rows::{Masks, blend_row, fill_row};
 use contexts::Stop;
 use forms::HALFTONE_WORDS;
 use object_memory::{ObjectMemory, Reg};
@@ -59,9 +60,11 @@ fn read_source<M: ObjectMemory>(
 }
 
 /// Changes the run of a row, whose source words are in a buffer.
+#[inline(always)]
 fn blend_run<M: ObjectMemory>(
     m: &mut M,
     t: &Transfer,
+    masks: Masks,
     halftone: &[u16],
     source: &[u16],
     y: usize,
@@ -69,6 +72,7 @@ fn blend_run<M: ObjectMemory>(
 ) -> Result<(), Stop>
     requires fit { IsFit M.ObjectMemory m.old }
     requires fits { Fits t.now }
+    requires masks { AreOf t.now.rule masks }
     requires rooms { HasRooms t.now (M.told m.old) }
     requires row { t.now.top ≤ y }
     requires below { y < t.now.bottom }
@@ -91,7 +95,7 @@ fn blend_run<M: ObjectMemory>(
         t.left - 16 * first,
         t.right - 16 * first,
         halftone[y % HALFTONE_WORDS as usize],
-        t.rule,
+        masks,
     );
     m.write_words(Reg::R13, at, run)?;
     Ok(())
@@ -102,12 +106,14 @@ fn blend_run<M: ObjectMemory>(
 fn fill_run<M: ObjectMemory>(
     m: &mut M,
     t: &Transfer,
+    masks: Masks,
     halftone: &[u16],
     y: usize,
     run: &mut [u16],
 ) -> Result<(), Stop>
     requires fit { IsFit M.ObjectMemory m.old }
     requires fits { Fits t.now }
+    requires masks { AreOf t.now.rule masks }
     requires rooms { HasRooms t.now (M.told m.old) }
     requires none { t.now.has_source ≡ false }
     requires row { t.now.top ≤ y }
@@ -122,7 +128,7 @@ fn fill_run<M: ObjectMemory>(
     let at = (t.stride * y + first) as u32;
     let tone = halftone[y % HALFTONE_WORDS as usize];
     m.read_words(Reg::R13, at, run)?;
-    fill_row(run, t.left - 16 * first, t.right - 16 * first, tone, t.rule);
+    fill_row(run, t.left - 16 * first, t.right - 16 * first, tone, masks);
     m.write_words(Reg::R13, at, run)?;
     Ok(())
 }
@@ -132,6 +138,7 @@ fn fill_run<M: ObjectMemory>(
 fn blend_one<M: ObjectMemory>(
     m: &mut M,
     t: &Transfer,
+    masks: Masks,
     halftone: &[u16],
     y: usize,
     source: &mut [u16],
@@ -139,6 +146,7 @@ fn blend_one<M: ObjectMemory>(
 ) -> Result<(), Stop>
     requires fit { IsFit M.ObjectMemory m.old }
     requires fits { Fits t.now }
+    requires masks { AreOf t.now.rule masks }
     requires rooms { HasRooms t.now (M.told m.old) }
     requires some { t.now.has_source ≡ true }
     requires row { t.now.top ≤ y }
@@ -152,7 +160,7 @@ fn blend_one<M: ObjectMemory>(
 {
     read_source(m, t, y, source)?;
     let count = (t.right - 1) / 16 - t.left / 16 + 1;
-    blend_run(m, t, halftone, source, y, &mut run[..count])
+    blend_run(m, t, masks, halftone, source, y, &mut run[..count])
 }
 
 /// Whether the words that the row reads begin before those that it writes.
@@ -189,15 +197,16 @@ fn blend_within<M: ObjectMemory>(
     ensures regs { OnOk result ((M.told m.new).regs ≡ (M.told m.old).regs) }
     ensures fit { StaysFit M.ObjectMemory m.old m.new result }
 {
+    let masks = Masks::of(t.rule);
     for i in 0..t.bottom - t.top {
         let y = t.bottom - 1 - i;
         if reads_before(t, y) {
-            blend_one(m, t, halftone, y, source, run)?;
+            blend_one(m, t, masks, halftone, y, source, run)?;
         }
     }
     for y in t.top..t.bottom {
         if !reads_before(t, y) {
-            blend_one(m, t, halftone, y, source, run)?;
+            blend_one(m, t, masks, halftone, y, source, run)?;
         }
     }
     Ok(())
@@ -220,9 +229,10 @@ fn fill_within<M: ObjectMemory>(
     ensures regs { OnOk result ((M.told m.new).regs ≡ (M.told m.old).regs) }
     ensures fit { StaysFit M.ObjectMemory m.old m.new result }
 {
+    let masks = Masks::of(t.rule);
     let count = (t.right - 1) / 16 - t.left / 16 + 1;
     for row in t.top..t.bottom {
-        fill_run(m, t, halftone, row, &mut run[..count])?;
+        fill_run(m, t, masks, halftone, row, &mut run[..count])?;
     }
     Ok(())
 }

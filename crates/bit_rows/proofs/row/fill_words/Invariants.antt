@@ -8,7 +8,7 @@ use Rattle.bit_rows.proofs.row.fill_words.Given as goal
 abbrev pub invariant-loop-i : goal.invariant-loop-i
 invariant-loop-i l = record {
   from : l.first ≤ l.i;
-  made : (rule : ℕ) → AreOf rule l.masks → (k j : ℕ) → l.first ≤ k → k < l.i → j < 16
+  made : (rule : ℕ) → AreOf rule l.fn.masks → (k j : ℕ) → l.first ≤ k → k < l.i → j < 16
       → left_bit (get_or l.row k 0) j ≡ rule_bit rule (left_bit l.halftone j) (left_bit (get_or l.fn.row k 0) j);
   rest : (k : ℕ) → ((k < l.first) ⊎ (l.i ≤ k)) → get_or l.row k 0 ≡ get_or l.fn.row k 0;
   fits : (k : ℕ) → get_or l.row k 0 < 65536;

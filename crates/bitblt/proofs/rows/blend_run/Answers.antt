@@ -61,7 +61,7 @@ returns-clause-serves g c = λ cpu.
     run-written t source c.args.halftone.now words run c.args.y len (dest_room t m c.requires.rooms told (run_start t c.args.y + run_length t) low)
     (run-after t source c.args.halftone.now words c.args.source.now c.read_words.new.out run c.args.y
     c.requires.fits.columns c.requires.fits.wide c.requires.row c.requires.below (c.requires.pixels told)
-    (search rules) (λ i h. run_read m 13 _ _ c.read_words.new.out (read.access.answer told) i (search rules)) (λ n h. c.blend_row.ensures.bits n (search rules)) c.blend_row.ensures.fits) in
+    (search rules) (λ i h. run_read m 13 _ _ c.read_words.new.out (read.access.answer told) i (search rules)) (λ n h. c.blend_row.ensures.bits c.args.t.now.rule c.requires.masks n (search rules)) c.blend_row.ensures.fits) in
     run_serves t.has_source (m.regs 14) (m.regs 13) words run (row_words t source c.args.halftone.now words c.args.y) (run_start t c.args.y)
     (rooms_there t m cpu c.requires.fit.ready c.requires.rooms)
     (λ told. (made told, row_words-length t source c.args.halftone.now words c.args.y))
@@ -92,4 +92,4 @@ returns-clause-written g c =
     run-written t source c.args.halftone.now words run c.args.y len (dest_room t m c.requires.rooms told (run_start t c.args.y + run_length t) low)
     (run-after t source c.args.halftone.now words c.args.source.now c.read_words.new.out run c.args.y
     c.requires.fits.columns c.requires.fits.wide c.requires.row c.requires.below (c.requires.pixels told)
-    (search rules) (λ i h. run_read m 13 _ _ c.read_words.new.out (read.access.answer told) i (search rules)) (λ n h. c.blend_row.ensures.bits n (search rules)) c.blend_row.ensures.fits))
+    (search rules) (λ i h. run_read m 13 _ _ c.read_words.new.out (read.access.answer told) i (search rules)) (λ n h. c.blend_row.ensures.bits c.args.t.now.rule c.requires.masks n (search rules)) c.blend_row.ensures.fits))

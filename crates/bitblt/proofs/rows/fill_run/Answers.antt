@@ -63,7 +63,7 @@ returns-clause-serves g c = λ cpu.
     (filled-none t source c.args.halftone.now words run c.args.y lacks
     (filled-after t c.args.halftone.now words c.read_words.new.out run c.args.y
     c.requires.fits.columns c.requires.fits.wide c.requires.row c.requires.below
-    (search rules) (λ i h. run_read m 13 _ _ c.read_words.new.out (read.access.answer told) i (search rules)) (λ n h. c.fill_row.ensures.bits n (search rules)) c.fill_row.ensures.fits)) in
+    (search rules) (λ i h. run_read m 13 _ _ c.read_words.new.out (read.access.answer told) i (search rules)) (λ n h. c.fill_row.ensures.bits c.args.t.now.rule c.requires.masks n (search rules)) c.fill_row.ensures.fits)) in
     run_serves t.has_source (m.regs 14) (m.regs 13) words run (row_words t source c.args.halftone.now words c.args.y) (run_start t c.args.y)
     (rooms_there t m cpu c.requires.fit.ready c.requires.rooms)
     (λ told. (made told, row_words-length t source c.args.halftone.now words c.args.y))
@@ -96,4 +96,4 @@ returns-clause-written g c =
     (filled-none t source c.args.halftone.now words run c.args.y lacks
     (filled-after t c.args.halftone.now words c.read_words.new.out run c.args.y
     c.requires.fits.columns c.requires.fits.wide c.requires.row c.requires.below
-    (search rules) (λ i h. run_read m 13 _ _ c.read_words.new.out (read.access.answer told) i (search rules)) (λ n h. c.fill_row.ensures.bits n (search rules)) c.fill_row.ensures.fits)))
+    (search rules) (λ i h. run_read m 13 _ _ c.read_words.new.out (read.access.answer told) i (search rules)) (λ n h. c.fill_row.ensures.bits c.args.t.now.rule c.requires.masks n (search rules)) c.fill_row.ensures.fits)))
