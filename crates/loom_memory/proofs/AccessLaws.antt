@@ -16,7 +16,8 @@ use Rattle.object_memory.specs.Contract.{Does, SameBounds, Raised, makes, IfBoun
 use Rattle.object_memory.specs.Plain.{refused}
 use Rattle.loom_memory.proofs.CacheLaws.{left-then, left-trans}
 use Rattle.long_names.specs.Need.{words_alone}
-use Rattle.loom_memory.specs.Memory.{IsQuiet, IsTaken, IsStoredIn, IsSilent, IsRefused}
+use Rattle.loom_memory.specs.Memory.{IsTaken, IsStoredIn, IsSilent, IsRefused}
+use Rattle.loom_memory.specs.Gentle.{IsQuiet}
 
 set_here : (regs : ℕ → Value) (to : ℕ) (v : Value) → set_register regs to v to ≡ v
 set_here regs to v = grind (arith, common_steps)

@@ -111,15 +111,12 @@ making-body kind.Method len header = refl
 
 pub kept-numbers : (p : Parts) (regs : List ℕ) (pins : Pinned) (k : Ledger) (h m n : ℕ) → IsKept p regs pins k → IsKept p regs pins (record k { held = h; made = m; next = n })
 kept-numbers p regs pins k h m n kept = record {
-  parts = kept.parts;
-  tight = kept.tight;
   size = kept.size;
   entries = kept.entries;
   rooted = kept.rooted;
   filled = kept.filled;
   many = kept.many;
   pinned = kept.pinned;
-  here = kept.here;
   cached = kept.cached;
 }
 
@@ -261,7 +258,7 @@ full-making {H} host m u words need x sound ready away is unfit refuses same lat
         → (core_of m.pager.levels.parts).find m.ledger.next ≡ None → words ≡ 4 + body_words (body_made what) → IsNeedBeside (core_of m.pager.levels.parts) m.pager.pinned m.ledger.next words need
         → need ≡ need_of_access (told_of host m.pager.levels.disk.host.now m.pager.levels.disk.rest (core_of m.pager.levels.parts) m.regs m.pager.pinned m.ledger) (Make to class what)
     need-of host m to class what words need o told form sound away size is =
-        need-new (host.tells Work) (core_of m.pager.levels.parts) (disk_of host m.pager.levels.disk.host.now m.pager.levels.disk.rest) m.ledger.next words m.pager.pinned need o told sound.kept.parts.core sound.kept.pinned away (size ∙ ap (λ (z : Object). 4 + body_words z.body) (sym form)) is
+        need-new (host.tells Work) (core_of m.pager.levels.parts) (disk_of host m.pager.levels.disk.host.now m.pager.levels.disk.rest) m.ledger.next words m.pager.pinned need o told m.pager.levels.whole.parts.core sound.kept.pinned away (size ∙ ap (λ (z : Object). 4 + body_words z.body) (sym form)) is
         ∙ ap (λ (n : ℕ). need_of (add_object (heap_if (host.tells Work) (held (core_of m.pager.levels.parts) (disk_of host m.pager.levels.disk.host.now m.pager.levels.disk.rest)) m.ledger.next) o) (record { object = n; slots = slots_by (core_of m.pager.levels.parts) m.pager.pinned })) (sym (next-told (host.tells Work) (held (core_of m.pager.levels.parts) (disk_of host m.pager.levels.disk.host.now m.pager.levels.disk.rest)) m.ledger.next told))
         ∙ ap (λ (z : Object). need_of (add_object (heap_if (host.tells Work) (held (core_of m.pager.levels.parts) (disk_of host m.pager.levels.disk.host.now m.pager.levels.disk.rest)) m.ledger.next) z) (record { object = (heap_if (host.tells Work) (held (core_of m.pager.levels.parts) (disk_of host m.pager.levels.disk.host.now m.pager.levels.disk.rest)) m.ledger.next).next; slots = slots_by (core_of m.pager.levels.parts) m.pager.pinned })) form
 
@@ -270,20 +267,20 @@ pub unfit-large : (c : Core) (pins : Pinned) (n words core entries : ℕ) (need 
 unfit-large c pins n words core entries need large is fits = let most = fits.words in let all = is.all in omega (arith, most, all, large)
 
 -- entries or words are wanting
-pub unfit-new : (p : Parts) (regs : List ℕ) (pins : Pinned) (k : Ledger) (n words : ℕ) (need : Need) → IsKept p regs pins k → IsShort p pins.a pins.b pins.d words 27 → entries_of p.names.table ≡ free_of p.names.table + sum_below (bound_of p.names.table) (λ t. used_by (entry_at p.names.table t))
+pub unfit-new : (p : Parts) (regs : List ℕ) (pins : Pinned) (k : Ledger) (n words : ℕ) (need : Need) → IsWhole p → IsKept p regs pins k → IsShort p pins.a pins.b pins.d words 27 → entries_of p.names.table ≡ free_of p.names.table + sum_below (bound_of p.names.table) (λ t. used_by (entry_at p.names.table t))
     → IsLaidOut (chunks_of p.segment) (words_free p.segment) (size_of p.segment) → IsNeedBeside (core_of p) pins n words need → Fits k.core k.entries need.words need.entries → ⊥
 unfolding core_of chunk_at
-unfit-new p regs pins k n words need kept short all laid is = go (nat_lt (spare_of p) 27) refl
+unfit-new p regs pins k n words need whole kept short all laid is = go (nat_lt (spare_of p) 27) refl
   where
     go : (b : Bool) → nat_lt (spare_of p) 27 ≡ b → Fits k.core k.entries need.words need.entries → ⊥
     go true e = λ fits.
-        let row = row-entries (core_of p) (λ n. None) 0 n pins kept.parts.core kept.pinned in
-        no-entries (core_of p) (λ n. None) 0 n need.words (spare_of p) k.entries k.core regs pins kept.parts.core short.bare kept.many kept.rooted kept.pinned (sym kept.entries ∙ all) (grind (arith, common_steps)) (record { words = fits.words; leaves = (let most = fits.leaves in let count = is.entries in omega (arith, most, count, row)) })
+        let row = row-entries (core_of p) (λ n. None) 0 n pins whole.parts.core kept.pinned in
+        no-entries (core_of p) (λ n. None) 0 n need.words (spare_of p) k.entries k.core regs pins whole.parts.core short.bare kept.many kept.rooted kept.pinned (sym kept.entries ∙ all) (grind (arith, common_steps)) (record { words = fits.words; leaves = (let most = fits.leaves in let count = is.entries in omega (arith, most, count, row)) })
     go false e = few (nat_lt (words_free p.segment) words) refl
       where
         few : (b : Bool) → nat_lt (words_free p.segment) words ≡ b → Fits k.core k.entries need.words need.entries → ⊥
         few true f = λ fits.
-            let most = words-few (core_of p) (chunks_of p.segment) (words_free p.segment) (size_of p.segment) pins.a pins.b pins.d kept.parts.core kept.tight short.bare refl laid in
+            let most = words-few (core_of p) (chunks_of p.segment) (words_free p.segment) (size_of p.segment) pins.a pins.b pins.d whole.parts.core whole.tight short.bare refl laid in
             let size = kept.size in
             let less : words_free p.segment < words = grind (arith, common_steps) in
             let all_ = fits.words in
@@ -377,7 +374,7 @@ pub added-sound : {H : Type 0} (host : Ghosts H) (m : LoomMemory H host) (q : Pa
     → ((t : Levels) → core_of m.pager.levels.parts ≡ t.core → AreSound t [] → HasFew t → t.next ≡ m.ledger.next → AreSound (made t (core_of q)) []) → l ≡ record m.ledger { held = m.ledger.held + 1; made = m.ledger.made + 1; next = m.ledger.next + 2 }
     → IsSound host (record (over_parts m q whole) { ledger = l; thinned = false })
 added-sound {H} host m q whole l class sort len header s sound parts size new low few f is = subst (λ (k : Ledger). IsSound host (record (over_parts m q whole) { ledger = k; thinned = false })) (sym is) (record {
-  kept = kept-numbers q m.regs m.pager.pinned m.ledger (m.ledger.held + 1) (m.ledger.made + 1) (m.ledger.next + 2) (calm-kept m.pager.levels.parts q m.regs m.pager.pinned m.ledger sound.kept (new.calm m.pager.pinned) parts (new.tight sound.kept.tight) size);
+  kept = kept-numbers q m.regs m.pager.pinned m.ledger (m.ledger.held + 1) (m.ledger.made + 1) (m.ledger.next + 2) (calm-kept m.pager.levels.parts q m.regs m.pager.pinned m.ledger m.pager.levels.whole sound.kept (new.calm m.pager.pinned) parts size);
   over = added-over host m.pager.levels.disk.host.now m.pager.levels.disk.rest (core_of m.pager.levels.parts) (core_of q) m.ledger m.ledger.next class sort len header s sound.over new low (λ told. (next-absent host m.pager.levels.parts m.pager.levels.disk.host.now m.pager.levels.disk.rest m.ledger.next sound.exact told).1);
   soon = (let was = sound.soon in omega (arith, was));
   exact = added-exact host m.pager.levels.parts q m.pager.levels.disk.host.now m.pager.levels.disk.rest m.ledger.next sound.exact few f;
@@ -389,9 +386,9 @@ pub added-is : {H : Type 0} (host : Ghosts H) (m : LoomMemory H host) (q : Parts
 unfolding loom_told
 added-is {H} host m q whole l of c sort len header s sound parts new is short same =
     subst (λ (k : Ledger). HasAdded (told_of host m.pager.levels.disk.host.now m.pager.levels.disk.rest (core_of m.pager.levels.parts) m.regs m.pager.pinned m.ledger) (told_of host m.pager.levels.disk.host.now m.pager.levels.disk.rest (core_of q) m.regs m.pager.pinned k) of (making_of sort len header)) (sym same)
-    (added-told host m.pager.levels.disk.host.now m.pager.levels.disk.rest (core_of m.pager.levels.parts) (core_of q) m.regs m.pager.pinned m.ledger c of sort len header s (kept-rooted m.pager.levels.parts m.regs m.pager.pinned m.ledger sound.kept) parts.core new sound.over.backed
+    (added-told host m.pager.levels.disk.host.now m.pager.levels.disk.rest (core_of m.pager.levels.parts) (core_of q) m.regs m.pager.pinned m.ledger c of sort len header s (kept-rooted m.pager.levels.parts m.regs m.pager.pinned m.ledger m.pager.levels.whole sound.kept) parts.core new sound.over.backed
     (ap (meant (core_of m.pager.levels.parts).entries [] 0) (sym is) ∙ meant-short (core_of m.pager.levels.parts).entries [] 0 c short)
-    (cache-left (core_of m.pager.levels.parts) (core_of q) (found m.ledger.rows) m.ledger.mark m.ledger.begun sound.kept.parts.core parts.core (new.calm m.pager.pinned).marks sound.kept.cached))
+    (cache-left (core_of m.pager.levels.parts) (core_of q) (found m.ledger.rows) m.ledger.mark m.ledger.begun m.pager.levels.whole.parts.core parts.core (new.calm m.pager.pinned).marks sound.kept.cached))
 
 -- what is told of the next name
 pub told-next : {H : Type 0} (host : Ghosts H) (m : LoomMemory H host) → IsTrue (host.tells Work) → (loom_told host m).heap.next ≡ m.ledger.next

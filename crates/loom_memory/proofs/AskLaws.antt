@@ -18,7 +18,8 @@ use Rattle.loom_memory.specs.declared.ledger.Ledger.{Ledger}
 use Rattle.loom_memory.specs.declared.memory.LoomMemory.{LoomMemory}
 use Rattle.loom_memory.specs.Gentle.{IsSpared}
 use Rattle.loom_memory.specs.Makings.{HasThinned, IsLost, IsRefusedMaking, OnCoreFull}
-use Rattle.loom_memory.specs.Memory.{loom_told, IsQuiet}
+use Rattle.loom_memory.specs.Memory.{loom_told}
+use Rattle.loom_memory.specs.Gentle.{IsQuiet}
 use Rattle.loom_memory.specs.Own.{MindsCache}
 use Rattle.loom_memory.specs.Residents.{fetched}
 use Rattle.loom_memory.proofs.MadeLaws.{core-lost}

@@ -22,7 +22,7 @@ use Rattle.leaf_lambda.proofs.FillLaws.{all-same}
 use Rattle.leaf_lambda.proofs.MergeLaws.{bytes-get, drop-get, take-at, length-bytes, length-drop-of, length-take-of, literals-length, code-drop}
 use Rattle.object_memory.specs.Told.{Told}
 use Rattle.object_memory.specs.Shape.{code_at, field_count}
-use Rattle.loom_memory.specs.Memory.{IsQuiet}
+use Rattle.loom_memory.specs.Gentle.{IsQuiet}
 use Rattle.loom_memory.specs.Bodies.{OfBody, HasRun, LacksRun, bytes_from, code_start, code_from}
 
 -- ---- bodies

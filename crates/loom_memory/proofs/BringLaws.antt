@@ -12,6 +12,7 @@ use Rattle.loom_host.specs.declared.outside.Role.TheVariants.{Work}
 use Rattle.core_view.specs.Counts.{outside}
 use Rattle.core_view.proofs.Steps.{outside-used}
 use Rattle.core_view.proofs.Words.{meant-short}
+use Rattle.leaf_lambda.specs.Whole.{IsWhole}
 use Rattle.loom_memory.specs.declared.memory.LoomMemory.{LoomMemory}
 use Rattle.loom_memory.proofs.RegLaws.{kept-rooted, register-held, word-there}
 use Rattle.long_names.specs.State.{IsRef}
@@ -37,7 +38,8 @@ use Rattle.purger.specs.declared.room.Pinned.{Pinned}
 use Rattle.loom_memory.specs.declared.ledger.Ledger.{Ledger}
 use Rattle.purger.specs.Purge.{IsShort}
 use Rattle.object_table.specs.Entries.{sum_below, used_by}
-use Rattle.loom_memory.specs.Memory.{heap_if, word_in, loom_told, IsSound, IsCalm, IsKept, IsQuiet, IsRefusedAt, IsNeed, IsRead, IsSized}
+use Rattle.loom_memory.specs.Memory.{heap_if, word_in, loom_told, IsSound, IsKept, IsRefusedAt, IsNeed, IsRead, IsSized}
+use Rattle.loom_memory.specs.Gentle.{IsCalm, IsQuiet}
 use Rattle.core_view.proofs.Chunks.{words-few}
 use Rattle.loom_memory.proofs.CallLaws.{unfit-entries, unfit-words, refused-at}
 use Rattle.loom_memory.proofs.CacheLaws.{left-refl}
@@ -71,30 +73,30 @@ read-then b x y d e m k s words was now core after used leaf used' leaf' name he
         sym (held-leaf y e (y.entries s).name s (after.found s used') leaf') ∙ ap (λ (h : Heap). h.at (y.entries s).name) heap ∙ ap (held x d) name ∙ held-leaf x d (x.entries s).name s (core.found s used) leaf ∙ there refl
 
 -- entries or words are wanting: the row has no room
-pub unfit : (p : Parts) (regs : List ℕ) (pins : Pinned) (k : Ledger) (s words : ℕ) (need : Need) (o : Object) → IsKept p regs pins k → IsShort p pins.a pins.b pins.d words 27 → entries_of p.names.table ≡ free_of p.names.table + sum_below (bound_of p.names.table) (λ t. used_by (entry_at p.names.table t))
+pub unfit : (p : Parts) (regs : List ℕ) (pins : Pinned) (k : Ledger) (s words : ℕ) (need : Need) (o : Object) → IsWhole p → IsKept p regs pins k → IsShort p pins.a pins.b pins.d words 27 → entries_of p.names.table ≡ free_of p.names.table + sum_below (bound_of p.names.table) (λ t. used_by (entry_at p.names.table t))
     → IsLaidOut (chunks_of p.segment) (words_free p.segment) (size_of p.segment) → is_used ((core_of p).entries s).state ≡ true → place_of ((core_of p).entries s).state ≡ None → 4 + body_words o.body ≡ words → IsNeed (core_of p) pins s words need → Fits k.core k.entries need.words need.entries → ⊥
 unfolding core_of chunk_at
-unfit p regs pins k s words need o kept short all laid used leaf sized is = go (nat_lt (spare_of p) 27) refl
+unfit p regs pins k s words need o whole kept short all laid used leaf sized is = go (nat_lt (spare_of p) 27) refl
   where
     go : (b : Bool) → nat_lt (spare_of p) 27 ≡ b → Fits k.core k.entries need.words need.entries → ⊥
-    go true e = unfit-entries (core_of p) s words (spare_of p) k.entries k.core need regs pins kept.parts.core short.bare kept.many kept.rooted kept.pinned (sym kept.entries ∙ all) (grind (arith, common_steps)) is
+    go true e = unfit-entries (core_of p) s words (spare_of p) k.entries k.core need regs pins whole.parts.core short.bare kept.many kept.rooted kept.pinned (sym kept.entries ∙ all) (grind (arith, common_steps)) is
     go false e = few (nat_lt (words_free p.segment) words) refl
       where
         few : (b : Bool) → nat_lt (words_free p.segment) words ≡ b → Fits k.core k.entries need.words need.entries → ⊥
         few true f =
-            let most = words-few (core_of p) (chunks_of p.segment) (words_free p.segment) (size_of p.segment) pins.a pins.b pins.d kept.parts.core kept.tight short.bare refl laid in
+            let most = words-few (core_of p) (chunks_of p.segment) (words_free p.segment) (size_of p.segment) pins.a pins.b pins.d whole.parts.core whole.tight short.bare refl laid in
             let size = kept.size in
-            unfit-words (core_of p) s words (words_free p.segment) k.entries k.core need pins o kept.parts.core kept.pinned used leaf sized (omega (arith, most, size)) (grind (arith, common_steps)) is
+            unfit-words (core_of p) s words (words_free p.segment) k.entries k.core need pins o whole.parts.core kept.pinned used leaf sized (omega (arith, most, size)) (grind (arith, common_steps)) is
         few false f = λ fits. short.wanting (grind (arith, common_steps), grind (arith, common_steps))
 
 -- the same for want of entries alone
-pub unfit-spare : (p : Parts) (regs : List ℕ) (pins : Pinned) (k : Ledger) (s words : ℕ) (need : Need) → IsKept p regs pins k → IsShort p pins.a pins.b pins.d 0 27 → entries_of p.names.table ≡ free_of p.names.table + sum_below (bound_of p.names.table) (λ t. used_by (entry_at p.names.table t))
+pub unfit-spare : (p : Parts) (regs : List ℕ) (pins : Pinned) (k : Ledger) (s words : ℕ) (need : Need) → IsWhole p → IsKept p regs pins k → IsShort p pins.a pins.b pins.d 0 27 → entries_of p.names.table ≡ free_of p.names.table + sum_below (bound_of p.names.table) (λ t. used_by (entry_at p.names.table t))
     → IsNeed (core_of p) pins s words need → Fits k.core k.entries need.words need.entries → ⊥
 unfolding core_of
-unfit-spare p regs pins k s words need kept short all is = go (nat_lt (spare_of p) 27) refl
+unfit-spare p regs pins k s words need whole kept short all is = go (nat_lt (spare_of p) 27) refl
   where
     go : (b : Bool) → nat_lt (spare_of p) 27 ≡ b → Fits k.core k.entries need.words need.entries → ⊥
-    go true e = unfit-entries (core_of p) s words (spare_of p) k.entries k.core need regs pins kept.parts.core short.bare kept.many kept.rooted kept.pinned (sym kept.entries ∙ all) (grind (arith, common_steps)) is
+    go true e = unfit-entries (core_of p) s words (spare_of p) k.entries k.core need regs pins whole.parts.core short.bare kept.many kept.rooted kept.pinned (sym kept.entries ∙ all) (grind (arith, common_steps)) is
     go false e = λ fits. short.wanting (omega arith, grind (arith, common_steps))
 
 -- ---- a last step after quiet ones
@@ -136,8 +138,8 @@ pub still-read : {H : Type 0} (host : Ghosts H) (m n : LoomMemory H host) (s wor
     → IsRead (host.tells Work) n.buf (disk_of host n.pager.levels.disk.host.now n.pager.levels.disk.rest) ((core_of n.pager.levels.parts).entries s).name words
 unfolding loom_told
 still-read {H} host m n s words sound after calm leaves quiet same out leaf read =
-    let still = leaf-still m.pager.pinned (core_of m.pager.levels.parts) (core_of n.pager.levels.parts) s sound.kept.parts.core after.kept.parts.core calm leaves out leaf in
-    read-then (host.tells Work) (core_of m.pager.levels.parts) (core_of n.pager.levels.parts) (disk_of host m.pager.levels.disk.host.now m.pager.levels.disk.rest) (disk_of host n.pager.levels.disk.host.now n.pager.levels.disk.rest) m.ledger.next n.ledger.next s words m.buf n.buf sound.kept.parts.core after.kept.parts.core still.was leaf still.used still.leaf still.name
+    let still = leaf-still m.pager.pinned (core_of m.pager.levels.parts) (core_of n.pager.levels.parts) s m.pager.levels.whole.parts.core n.pager.levels.whole.parts.core calm leaves out leaf in
+    read-then (host.tells Work) (core_of m.pager.levels.parts) (core_of n.pager.levels.parts) (disk_of host m.pager.levels.disk.host.now m.pager.levels.disk.rest) (disk_of host n.pager.levels.disk.host.now n.pager.levels.disk.rest) m.ledger.next n.ledger.next s words m.buf n.buf m.pager.levels.whole.parts.core n.pager.levels.whole.parts.core still.was leaf still.used still.leaf still.name
     (ap (λ (z : Told). z.heap) quiet.same) same read
 
 pub quiet-same : {H : Type 0} (host : Ghosts H) (m : LoomMemory H host) → IsQuiet (loom_told host m) (loom_told host m)
@@ -156,7 +158,7 @@ unfolding loom_told
 named-then {H} host m n of s sound now ready ref same calm quiet =
     let short : is_short (word_in m.regs of) ≡ true = ref-short (core_of m.pager.levels.parts) (word_in m.regs of) (sound.kept.filled of) ref in
     let is : is_short s ≡ true = subst (λ (w : ℕ). is_short w ≡ true) (sym same) short in
-    let held_ : 1 ≤ outside (core_of m.pager.levels.parts) s = subst (λ (w : ℕ). 1 ≤ outside (core_of m.pager.levels.parts) w) (sym same) (register-held (core_of m.pager.levels.parts) m.regs m.pager.pinned of (word_in m.regs of) (kept-rooted m.pager.levels.parts m.regs m.pager.pinned m.ledger sound.kept) (word-there m.regs of short) short) in
+    let held_ : 1 ≤ outside (core_of m.pager.levels.parts) s = subst (λ (w : ℕ). 1 ≤ outside (core_of m.pager.levels.parts) w) (sym same) (register-held (core_of m.pager.levels.parts) m.regs m.pager.pinned of (word_in m.regs of) (kept-rooted m.pager.levels.parts m.regs m.pager.pinned m.ledger m.pager.levels.whole sound.kept) (word-there m.regs of short) short) in
     let out_ : 1 ≤ outside (core_of n.pager.levels.parts) s = subst (λ (k : ℕ). 1 ≤ k) (sym (calm.same_outside s)) held_ in
     let name_ : (loom_told host m).regs of ≡ Ref ((core_of n.pager.levels.parts).entries s).name = ap (meant (core_of m.pager.levels.parts).entries [] 0) (sym same) ∙ meant-short (core_of m.pager.levels.parts).entries [] 0 s is ∙ ap Ref (sym (calm.live s held_)) in
     record {

@@ -44,7 +44,8 @@ use Rattle.disk_objects.specs.Function.{disk_of}
 use Rattle.purger.specs.Purge.{IsPurgeFault}
 use Rattle.core_view.specs.Room.{room_by, room_for, over_three, IsBare}
 use Rattle.object_table.specs.Entries.{sum_below, used_by}
-use Rattle.loom_memory.specs.Memory.{pin_in, name_if, heap_if, loom_told, IsPinned, IsSound, IsQuiet, IsSilent, IsRefused, IsRefusedAt, IsRefusalOf, IsNeed, IsSized, words_in_row}
+use Rattle.loom_memory.specs.Memory.{pin_in, name_if, heap_if, loom_told, IsPinned, IsSound, IsSilent, IsRefused, IsRefusedAt, IsRefusalOf, IsNeed, IsSized, words_in_row}
+use Rattle.loom_memory.specs.Gentle.{IsQuiet}
 use Rattle.core_view.specs.Room.{in_hand}
 use Rattle.loom_memory.proofs.NeedLaws.{words-at, names-eq, none-there, slot-adds}
 use Rattle.loom_memory.proofs.FullLaws.{slots_by, heap_by, row-entries, pinned-is, no-entries, no-words}
@@ -142,7 +143,7 @@ core-full {H} host m n s words need x sound ready used sized is unfit refuses sa
     subst (λ (f : MemFault). IsRefused (loom_told host m) n a f) (sym same)
     (refused-quiet (loom_told host m) (loom_told host m) n a (CoreFull need) (record { same = refl; cache = left-refl (loom_told host m).cache; bounds = (refl, refl, refl, omega arith, omega arith); counts = (refl, sym (add-zero m.ledger.made)) }) refuses ready silent none later (
       subst (λ b. ForBounds b (λ b. Fits b.core b.entries need.words need.entries → ⊥)) (sym (ap (λ (z : Told). z.bounds) refuses)) unfit,
-      λ told. row-need (loom_told host m) a of need target (need-told (host.tells Work) (core_of m.pager.levels.parts) (disk_of host m.pager.levels.disk.host.now m.pager.levels.disk.rest) m.ledger.next s words m.pager.pinned need told sound.kept.parts.core sound.kept.pinned used (sized told) is
+      λ told. row-need (loom_told host m) a of need target (need-told (host.tells Work) (core_of m.pager.levels.parts) (disk_of host m.pager.levels.disk.host.now m.pager.levels.disk.rest) m.ledger.next s words m.pager.pinned need told m.pager.levels.whole.parts.core sound.kept.pinned used (sized told) is
           ∙ sym (access-need (loom_told host m) a of ((core_of m.pager.levels.parts).entries s).name target named none)),
     ))
 

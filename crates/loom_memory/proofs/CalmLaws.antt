@@ -23,13 +23,14 @@ use Rattle.core_view.proofs.Core.{meant-names}
 use Rattle.leaf_lambda.specs.declared.parts.Parts.{Parts}
 use Rattle.leaf_lambda.specs.Parts.{core_of, IsParts, IsWithin}
 use Rattle.core_view.proofs.Steps.{outside-used}
+use Rattle.leaf_lambda.specs.Whole.{IsWhole}
 use Rattle.loom_memory.specs.declared.ledger.Ledger.{Ledger}
 use Rattle.purger.specs.declared.room.Pinned.{Pinned}
 use Rattle.core_view.specs.Room.{is_among}
-use Rattle.core_view.specs.Kept.{IsTight}
 use Rattle.disk_objects.specs.Function.{disk_of}
 use Rattle.core_view.specs.Purge.{IsPurged, fresh_of}
-use Rattle.loom_memory.specs.Memory.{word_in, pin_in, name_if, heap_if, told_of, IsPinned, IsKept, IsOver, IsCalm, IsQuiet, Others, others_of}
+use Rattle.loom_memory.specs.Memory.{word_in, pin_in, name_if, heap_if, told_of, IsPinned, IsKept, IsOver, Others, others_of}
+use Rattle.loom_memory.specs.Gentle.{IsCalm, IsQuiet}
 use Rattle.loom_memory.specs.Numbers.{IsNumbered}
 use Rattle.core_view.specs.Kept.{IsValued}
 use Rattle.core_view.specs.Counts.{marked_of}
@@ -113,19 +114,16 @@ among-pin pins i some = go (eqb i 0) refl
 pub calm-pinned : (pins : Pinned) (x y : Core) (i : ℕ) → IsCalm pins x y → IsPinned x (pin_in pins i) → IsPinned y (pin_in pins i)
 calm-pinned pins x y i calm pin = λ some. let was = pin some in let now = calm.pinned (pin_in pins i) was.1.0 (among-pin pins i some) was.1.1 in (was.0, (now.at, now.place))
 
-pub calm-kept : (p q : Parts) (regs : List ℕ) (pins : Pinned) (k : Ledger) → IsKept p regs pins k → IsCalm pins (core_of p) (core_of q) → IsParts q → IsTight (core_of q) → size_of q.segment ≡ size_of p.segment → IsKept q regs pins k
+pub calm-kept : (p q : Parts) (regs : List ℕ) (pins : Pinned) (k : Ledger) → IsWhole p → IsKept p regs pins k → IsCalm pins (core_of p) (core_of q) → IsParts q → size_of q.segment ≡ size_of p.segment → IsKept q regs pins k
 unfolding core_of
-calm-kept p q regs pins k kept calm parts tight size = record {
-  parts = parts;
-  tight = tight;
+calm-kept p q regs pins k whole kept calm parts size = record {
   size = size ∙ kept.size;
   entries = let was = kept.entries in let bound = calm.bound in omega arith;
   rooted = λ t. calm.same_outside t ∙ kept.rooted t;
   filled = kept.filled;
   many = kept.many;
   pinned = λ i. calm-pinned pins (core_of p) (core_of q) i calm (kept.pinned i);
-  here = calm.here kept.here;
-  cached = cached-left (core_of p) (core_of q) (found k.rows) k.mark kept.parts.core parts.core calm.marks kept.cached;
+  cached = cached-left (core_of p) (core_of q) (found k.rows) k.mark whole.parts.core parts.core calm.marks kept.cached;
 }
 
 pub calm-regs : (x y : Core) (regs : List ℕ) (pins : Pinned) → IsRooted x regs pins → IsCalm pins x y → ◌≡◌ {A = ℕ → Value} (λ r. meant y.entries [] 0 (word_in regs r)) (λ r. meant x.entries [] 0 (word_in regs r))

@@ -14,7 +14,7 @@ use Rattle.long_names.proofs.ThinLemmas.{IsThinner-refl}
 use Rattle.object_memory.specs.Told.{Told, Cache, Bounds, IsReady}
 use Rattle.object_memory.specs.Contract.{SameBounds, Raised, IfBounds, HasCore, Accessed, LeavesCache, no_names}
 use Rattle.object_table.specs.Entries.{is_short}
-use Rattle.loom_memory.specs.Memory.{IsQuiet}
+use Rattle.loom_memory.specs.Gentle.{IsQuiet}
 use Rattle.loom_memory.proofs.RegLaws.{ready-put}
 use Rattle.loom_memory.proofs.MarkingLaws.{filled, eq-self}
 

@@ -9,7 +9,8 @@ use Rattle.object_memory.specs.Told.{Told, is_root}
 use Rattle.object_memory.specs.declared.fault.MemFault.{MemFault}
 use Rattle.loom_memory.specs.declared.ledger.Ledger.{Ledger}
 use Rattle.loom_memory.specs.declared.memory.LoomMemory.{LoomMemory}
-use Rattle.loom_memory.specs.Memory.{loom_told, IsQuiet, IsSound, IsStillNamed, IsThin, NothingDead}
+use Rattle.loom_memory.specs.Memory.{loom_told, IsSound, IsStillNamed, IsThin, NothingDead}
+use Rattle.loom_memory.specs.Gentle.{IsQuiet}
 
 -- ---- what is told
 
@@ -65,7 +66,7 @@ refused-sound host m l n f is sound =
     let kept = sound.kept in
     let over = sound.over in
     subst (λ (k : Ledger). IsSound host (record m { ledger = k })) (sym is) (record {
-      kept = record { parts = kept.parts; tight = kept.tight; size = kept.size; entries = kept.entries; rooted = kept.rooted; filled = kept.filled; many = kept.many; pinned = kept.pinned; here = kept.here; cached = kept.cached };
+      kept = record { size = kept.size; entries = kept.entries; rooted = kept.rooted; filled = kept.filled; many = kept.many; pinned = kept.pinned; cached = kept.cached };
       over = record { stands = over.stands; backed = over.backed; counted = over.counted; roomy = over.roomy; based = over.based; valued = over.valued };
       exact = sound.exact;
       thin = sound.thin;

@@ -16,7 +16,8 @@ use Rattle.disk_objects.specs.Disk.{disk_room}
 use Rattle.purger.specs.Purge.{IsPurgeFault}
 use Rattle.loom_memory.specs.declared.ledger.Ledger.{Ledger}
 use Rattle.loom_memory.specs.declared.memory.LoomMemory.{LoomMemory}
-use Rattle.loom_memory.specs.Memory.{loom_told, IsQuiet, IsRefusalOf}
+use Rattle.loom_memory.specs.Memory.{loom_told, IsRefusalOf}
+use Rattle.loom_memory.specs.Gentle.{IsQuiet}
 use Rattle.loom_memory.proofs.CallLaws.{transcript-away, purge-left}
 
 thins-at : (t : Told) (b : Option Bounds) (c : Cache) → LeavesCache no_names None t.cache t.cache c → Raised 0 t.bounds b → Follows t (record t { bounds = b; cache = c }) Thins

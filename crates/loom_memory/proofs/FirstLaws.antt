@@ -142,15 +142,12 @@ first-hand t = ones-none t 24 (0 ∷ (0 ∷ (0 ∷ []))) (not-one t 0 (zero-name
 
 pub first-kept : (p : Parts) (k : Ledger) → IsEmptyCore p k.core k.entries → k.mark ≡ 0 → IsKept p (replicate 24 1) no_pins k
 first-kept p k empty mark = record {
-  parts = empty.parts;
-  tight = empty.tight;
   size = empty.size;
   entries = empty.entries_are;
   rooted = λ t. empty.outside_none t ∙ sym (first-hand t);
   filled = λ r e. absurd (let is = first-word 24 r in let bad : 1 ≡ 0 = sym is ∙ e in omega (arith, bad));
   many = refl;
   pinned = λ i some. absurd (some (first-pin i));
-  here = λ s used marked. absurd (let none = empty.unused s in cc);
   cached = record {
     none = λ e n. empty-marks (core_of p) empty.parts.core empty.unused n;
     rows = λ e s t w f. absurd (let none = empty-mark (core_of p) k.mark empty.unused in cc);

@@ -37,7 +37,8 @@ use Rattle.loom_memory.specs.declared.memory.LoomMemory.{LoomMemory}
 use Rattle.loom_memory.specs.Freed.{IsAlive, IsFreed}
 use Rattle.loom_memory.specs.Gentle.{IsGentle}
 use Rattle.loom_memory.specs.Makings.{HasBegun, HasThinned}
-use Rattle.loom_memory.specs.Memory.{heap_if, loom_told, word_in, IsCalm, IsQuiet, IsRead, IsRefused, IsSilent, IsSized, IsSound}
+use Rattle.loom_memory.specs.Memory.{heap_if, loom_told, word_in, IsRead, IsRefused, IsSilent, IsSized, IsSound}
+use Rattle.loom_memory.specs.Gentle.{IsCalm, IsQuiet}
 use Rattle.loom_memory.specs.Own.{MindsCache}
 use Rattle.loom_memory.specs.Residents.{has_body, is_resident}
 use Rattle.loom_memory.proofs.BringLaws.{still-read, ref-short, IsLeafStill, IsNamed}
@@ -114,14 +115,14 @@ leaf-stays {H} host m u t sound now calm minds out leaf = go (place_of ((core_of
     name = ((core_of m.pager.levels.parts).entries t).name
 
     away : is_resident m name ≡ false
-    away = ap (has_body (core_of m.pager.levels.parts)) (sound.kept.parts.core.found t (outside-used (core_of m.pager.levels.parts) t sound.kept.parts.core out)) ∙ ap (λ (x : Option ℕ). is_some x) leaf
+    away = ap (has_body (core_of m.pager.levels.parts)) (m.pager.levels.whole.parts.core.found t (outside-used (core_of m.pager.levels.parts) t m.pager.levels.whole.parts.core out)) ∙ ap (λ (x : Option ℕ). is_some x) leaf
 
     out_now : 1 ≤ outside (core_of u.pager.levels.parts) t
     out_now = subst (λ (n : ℕ). 1 ≤ n) (sym (calm.same_outside t)) out
 
     here : (p : ℕ) → place_of ((core_of u.pager.levels.parts).entries t).state ≡ Some p → IsTrue (is_resident u name)
     here p e = ap (λ (k : ℕ). has_body (core_of u.pager.levels.parts) ((core_of u.pager.levels.parts).find k)) (sym (calm.live t out))
-        ∙ ap (has_body (core_of u.pager.levels.parts)) (now.kept.parts.core.found t (outside-used (core_of u.pager.levels.parts) t now.kept.parts.core out_now)) ∙ ap (λ (x : Option ℕ). is_some x) e
+        ∙ ap (has_body (core_of u.pager.levels.parts)) (u.pager.levels.whole.parts.core.found t (outside-used (core_of u.pager.levels.parts) t u.pager.levels.whole.parts.core out_now)) ∙ ap (λ (x : Option ℕ). is_some x) e
 
     go : (x : Option ℕ) → place_of ((core_of u.pager.levels.parts).entries t).state ≡ x → place_of ((core_of u.pager.levels.parts).entries t).state ≡ None
     go None e = e
@@ -171,8 +172,8 @@ thinned-read : {H : Type 0} (host : Ghosts H) (m u : LoomMemory H host) (s words
     → IsRead (host.tells Work) u.buf (disk_of host u.pager.levels.disk.host.now u.pager.levels.disk.rest) ((core_of u.pager.levels.parts).entries s).name words
 unfolding loom_told
 thinned-read {H} host m u s words sound after calm leaf_now thin same out leaf read =
-    let still = leaf-then m.pager.pinned (core_of m.pager.levels.parts) (core_of u.pager.levels.parts) s sound.kept.parts.core after.kept.parts.core calm out leaf_now in
-    read-at (host.tells Work) (core_of m.pager.levels.parts) (core_of u.pager.levels.parts) (disk_of host m.pager.levels.disk.host.now m.pager.levels.disk.rest) (disk_of host u.pager.levels.disk.host.now u.pager.levels.disk.rest) m.ledger.next u.ledger.next s words m.buf u.buf sound.kept.parts.core after.kept.parts.core still leaf
+    let still = leaf-then m.pager.pinned (core_of m.pager.levels.parts) (core_of u.pager.levels.parts) s m.pager.levels.whole.parts.core u.pager.levels.whole.parts.core calm out leaf_now in
+    read-at (host.tells Work) (core_of m.pager.levels.parts) (core_of u.pager.levels.parts) (disk_of host m.pager.levels.disk.host.now m.pager.levels.disk.rest) (disk_of host u.pager.levels.disk.host.now u.pager.levels.disk.rest) m.ledger.next u.ledger.next s words m.buf u.buf m.pager.levels.whole.parts.core u.pager.levels.whole.parts.core still leaf
     (λ told. sym (same-there (loom_told host m).heap (loom_told host u).heap ((core_of u.pager.levels.parts).entries s).name (thin.thinning told).thinner (entry-held host u s after told still.used))) same read
 
 pub read-first : {T H : Type 0} (r : Result T MemFault) (host : Ghosts H) (m u v : LoomMemory H host) → IsSound host m → IsSound host u → KeepsSound r (IsSound host v) → IsCalm m.pager.pinned (core_of m.pager.levels.parts) (core_of u.pager.levels.parts) → MindsCache host None m u (λ k. ⊥) → HasThinned (loom_told host m) (loom_told host u) → u.buf ≡ m.buf → v.buf ≡ u.buf
@@ -231,7 +232,7 @@ pub register-out : {H : Type 0} (host : Ghosts H) (m : LoomMemory H host) (of s 
 unfolding loom_told
 register-out {H} host m of s sound ref same =
     let short : is_short (word_in m.regs of) ≡ true = ref-short (core_of m.pager.levels.parts) (word_in m.regs of) (sound.kept.filled of) ref in
-    subst (λ (w : ℕ). 1 ≤ outside (core_of m.pager.levels.parts) w) (sym same) (register-held (core_of m.pager.levels.parts) m.regs m.pager.pinned of (word_in m.regs of) (kept-rooted m.pager.levels.parts m.regs m.pager.pinned m.ledger sound.kept) (word-there m.regs of short) short)
+    subst (λ (w : ℕ). 1 ≤ outside (core_of m.pager.levels.parts) w) (sym same) (register-held (core_of m.pager.levels.parts) m.regs m.pager.pinned of (word_in m.regs of) (kept-rooted m.pager.levels.parts m.regs m.pager.pinned m.ledger m.pager.levels.whole sound.kept) (word-there m.regs of short) short)
 
 -- the same object after dead objects went
 pub named-first : {H : Type 0} (host : Ghosts H) (m n : LoomMemory H host) (of s : ℕ) → IsSound host m → IsSound host n → IsRef ((loom_told host m).regs of) → s ≡ word_in m.regs of → IsCalm m.pager.pinned (core_of m.pager.levels.parts) (core_of n.pager.levels.parts) → IsNamed host m n of s
@@ -241,7 +242,7 @@ named-first {H} host m n of s sound now ref same calm =
     let is : is_short s ≡ true = subst (λ (w : ℕ). is_short w ≡ true) (sym same) short in
     let held_ = register-out host m of s sound ref same in
     let out_ : 1 ≤ outside (core_of n.pager.levels.parts) s = subst (λ (k : ℕ). 1 ≤ k) (sym (calm.same_outside s)) held_ in
-    let used_ = outside-used (core_of n.pager.levels.parts) s now.kept.parts.core out_ in
+    let used_ = outside-used (core_of n.pager.levels.parts) s n.pager.levels.whole.parts.core out_ in
     record {
       used = used_;
       out = out_;

@@ -42,7 +42,8 @@ use Rattle.purger.proofs.RoomLaws.{all-pinned, none-of, some-of}
 use Rattle.loom_memory.specs.declared.ledger.Ledger.{Ledger}
 use Rattle.loom_memory.specs.declared.memory.LoomMemory.{LoomMemory}
 use Rattle.loom_memory.specs.Makings.{HasThinned}
-use Rattle.loom_memory.specs.Memory.{loom_told, word_in, IsCalm, IsQuiet, IsSized, IsSound, IsStill}
+use Rattle.loom_memory.specs.Memory.{loom_told, word_in, IsSized, IsSound}
+use Rattle.loom_memory.specs.Gentle.{IsCalm, IsQuiet, IsStill}
 use Rattle.loom_memory.specs.Stores.{IsRecount}
 use Rattle.loom_memory.specs.Says.{IsSpeech}
 use Rattle.loom_memory.specs.Cache.{cache_of, with_its_mark}
@@ -130,9 +131,9 @@ pub entry-at : {H : Type 0} (host : Ghosts H) (m : LoomMemory H host) (of s : �
 unfolding loom_told
 entry-at {H} host m of s sound ref same =
     let short : is_short (word_in m.regs of) ≡ true = ref-short (core_of m.pager.levels.parts) (word_in m.regs of) (sound.kept.filled of) ref in
-    let out = register-held (core_of m.pager.levels.parts) m.regs m.pager.pinned of (word_in m.regs of) (kept-rooted m.pager.levels.parts m.regs m.pager.pinned m.ledger sound.kept) (word-there m.regs of short) short in
+    let out = register-held (core_of m.pager.levels.parts) m.regs m.pager.pinned of (word_in m.regs of) (kept-rooted m.pager.levels.parts m.regs m.pager.pinned m.ledger m.pager.levels.whole sound.kept) (word-there m.regs of short) short in
     record {
-      used = subst (λ (w : ℕ). is_used ((core_of m.pager.levels.parts).entries w).state ≡ true) (sym same) (outside-used (core_of m.pager.levels.parts) (word_in m.regs of) sound.kept.parts.core out);
+      used = subst (λ (w : ℕ). is_used ((core_of m.pager.levels.parts).entries w).state ≡ true) (sym same) (outside-used (core_of m.pager.levels.parts) (word_in m.regs of) m.pager.levels.whole.parts.core out);
       name = meant-short (core_of m.pager.levels.parts).entries [] 0 (word_in m.regs of) short ∙ ap (λ (w : ℕ). Ref ((core_of m.pager.levels.parts).entries w).name) (sym same);
     }
 
@@ -142,7 +143,7 @@ unfolding is_resident
 resident-is {H} {host} m s core used = ap (λ (x : Option ℕ). has_body (core_of m.pager.levels.parts) x) (core.found s used)
 
 pub resident-at : {H : Type 0} (host : Ghosts H) (m : LoomMemory H host) (of s : ℕ) → IsSound host m → IsRef ((loom_told host m).regs of) → s ≡ word_in m.regs of → is_resident m (name_at ((loom_told host m).regs of)) ≡ is_some (place_of ((core_of m.pager.levels.parts).entries s).state)
-resident-at {H} host m of s sound ref same = let it = entry-at host m of s sound ref same in ap (λ (v : Value). is_resident m (name_at v)) it.name ∙ resident-is m s sound.kept.parts.core it.used
+resident-at {H} host m of s sound ref same = let it = entry-at host m of s sound ref same in ap (λ (v : Value). is_resident m (name_at v)) it.name ∙ resident-is m s m.pager.levels.whole.parts.core it.used
 
 -- the object of a register is in the core after a quiet step
 pub resident-then : {H : Type 0} (host : Ghosts H) (m n : LoomMemory H host) (of s p : ℕ) → IsSound host n → HasThinned (loom_told host m) (loom_told host n) → IsRef ((loom_told host m).regs of) → s ≡ word_in n.regs of → place_of ((core_of n.pager.levels.parts).entries s).state ≡ Some p → IsTrue (is_resident n (name_at ((loom_told host m).regs of)))
@@ -155,7 +156,7 @@ resident-then {H} host m n of s p sound thin ref same there =
 pub bounded-at : {H : Type 0} (host : Ghosts H) (m : LoomMemory H host) → IsSound host m → IsLaidOut (chunks_of m.pager.levels.parts.segment) (free_of m.pager.levels.parts.segment) (size_of m.pager.levels.parts.segment) → ForBounds (loom_told host m).bounds (λ b. words_resident m ≤ b.core)
 unfolding loom_told words_resident core_of chunk_at
 bounded-at {H} host m sound laid =
-    let all = words-all (core_of m.pager.levels.parts) (chunks_of m.pager.levels.parts.segment) (free_of m.pager.levels.parts.segment) (size_of m.pager.levels.parts.segment) sound.kept.parts.core sound.kept.tight refl laid in
+    let all = words-all (core_of m.pager.levels.parts) (chunks_of m.pager.levels.parts.segment) (free_of m.pager.levels.parts.segment) (size_of m.pager.levels.parts.segment) m.pager.levels.whole.parts.core m.pager.levels.whole.tight refl laid in
     let size = sound.kept.size in
     omega (arith, all, size)
 
@@ -179,7 +180,7 @@ unfolding loom_told
 record-words {H} host m u s words sound used same quiet sized told leaf =
     ap (λ (p : Parts). words_at (loom_told host m).heap ((core_of p).entries s).name) (sym same)
     ∙ ap (λ (h : Heap). words_at h ((core_of u.pager.levels.parts).entries s).name) (sym (ap (λ (z : Told). z.heap) quiet.same))
-    ∙ leaf-words (host.tells Work) (core_of u.pager.levels.parts) (disk_of host u.pager.levels.disk.host.now u.pager.levels.disk.rest) u.ledger.next s words told sound.kept.parts.core used leaf sized
+    ∙ leaf-words (host.tells Work) (core_of u.pager.levels.parts) (disk_of host u.pager.levels.disk.host.now u.pager.levels.disk.rest) u.ledger.next s words told u.pager.levels.whole.parts.core used leaf sized
 
 pub brought-gentle : {T H : Type 0} (r : Result T MemFault) (host : Ghosts H) (m u n : LoomMemory H host) (s words : ℕ) → IsSound host u → is_used ((core_of u.pager.levels.parts).entries s).state ≡ true → u.pager.levels.parts ≡ m.pager.levels.parts → IsQuiet (loom_told host m) (loom_told host u) → IsSized (host.tells Work) (disk_of host u.pager.levels.disk.host.now u.pager.levels.disk.rest ((core_of u.pager.levels.parts).entries s).name) words
     → IsGentle host m u → OnOk r (HasRoom u.pager.levels.parts words 27 → IsGentle host u n)
@@ -210,7 +211,7 @@ by-place {H} host m u n away gentle place = ⊎_elim (λ (h : IsTrue (is_residen
 come-reached : {H : Type 0} (host : Ghosts H) (m u : LoomMemory H host) (n : ℕ) → IsCore (core_of m.pager.levels.parts) → IsSound host u → is_resident m n ≡ false → IsTrue (is_resident u n) → fetched u ≡ counted (fetched m) → (HasPlace host m n → IsGentle host m u) → IsReached host m u n
 come-reached {H} host m u n core sound away there counts gentle = record {
   there = there;
-  stays = λ place. remains-residents m u core sound.kept.parts.core (gentle place).remains;
+  stays = λ place. remains-residents m u core u.pager.levels.whole.parts.core (gentle place).remains;
   read = λ place. (gentle place).read;
   idle = λ here. absurd (let both : true ≡ false = sym here ∙ away in cc);
   comes = λ gone. counts;
@@ -321,7 +322,7 @@ refused-change {A} {B} {H} host m u n f own = record { reached = tt; sure = own.
 
 -- the store itself
 pub then-store : {A B H : Type 0} (r : Result B MemFault) (host : Ghosts H) (m u v : LoomMemory H host) (n : ℕ) (x : A) → IsSparingChange {A = A} host m u n (Ok x) → OnOk r (IsResting u v) → IfErr r (λ f. IsTrue (host.tells Work) → ⊥) → IsCore (core_of u.pager.levels.parts) → KeepsSound r (IsSound host v) → IsSparingChange {A = B} host m v n r
-then-store {A} {B} {H} (Ok y) host m u v n x was rest sure core now = record { reached = rest-reached host m u v n was.reached rest core now.kept.parts.core; sure = tt }
+then-store {A} {B} {H} (Ok y) host m u v n x was rest sure core now = record { reached = rest-reached host m u v n was.reached rest core v.pager.levels.whole.parts.core; sure = tt }
 then-store {A} {B} {H} (Err f) host m u v n x was rest sure core now = record { reached = tt; sure = λ told here. sure told }
 
 pub err-store : {A B H : Type 0} (host : Ghosts H) (m u : LoomMemory H host) (n : ℕ) (f : MemFault) → IsSparingChange {A = A} host m u n (Err f) → IsSparingChange {A = B} host m u n (Err f)
@@ -332,7 +333,7 @@ err-store {A} {B} {H} host m u n f own = record { reached = tt; sure = own.sure 
 pub hand-is : {H : Type 0} (host : Ghosts H) (m : LoomMemory H host) (of s i : ℕ) → IsSound host m → IsRef ((loom_told host m).regs of) → s ≡ word_in m.regs of → IsAtHand m (name_at ((loom_told host m).regs of)) i → (at : ℕ) × (w : ℕ) × IsAt (core_of m.pager.levels.parts) s at i w × (w ≢ 0)
 hand-is {H} host m of s i sound ref same hand =
     let it = entry-at host m of s sound ref same in
-    let found : (core_of m.pager.levels.parts).find (name_at ((loom_told host m).regs of)) ≡ Some s = ap (λ (v : Value). (core_of m.pager.levels.parts).find (name_at v)) it.name ∙ sound.kept.parts.core.found s it.used in
+    let found : (core_of m.pager.levels.parts).find (name_at ((loom_told host m).regs of)) ≡ Some s = ap (λ (v : Value). (core_of m.pager.levels.parts).find (name_at v)) it.name ∙ m.pager.levels.whole.parts.core.found s it.used in
     let is : hand.entry ≡ s = some-same hand.entry s (sym hand.found ∙ found) in
     (hand.at, hand.word, subst (λ (k : ℕ). IsAt (core_of m.pager.levels.parts) k hand.at i hand.word) is hand.there, hand.some)
   where
@@ -394,7 +395,7 @@ pub load-searched : {H : Type 0} (host : Ghosts H) (m u : LoomMemory H host) (of
     → ((at : ℕ) → place_of ((core_of m.pager.levels.parts).entries (word_in m.regs of)).state ≡ Some at → HasRoom m.pager.levels.parts 0 27 → u ≡ m) → MindsCache host None m u (IsBrought m u (name_at ((loom_told host m).regs of))) → IsSearched host m u (name_at ((loom_told host m).regs of))
 load-searched {H} host m u of sound now ref there counts gentle same minds = record {
   there = there;
-  stays = λ space. remains-residents m u sound.kept.parts.core now.kept.parts.core (each space).remains;
+  stays = λ space. remains-residents m u m.pager.levels.whole.parts.core u.pager.levels.whole.parts.core (each space).remains;
   cached = λ space. (each space).cache;
   read = λ space. (each space).read;
   comes = λ away. counts (none-of (place_of ((core_of m.pager.levels.parts).entries (word_in m.regs of)).state) (is_resident m (name_at ((loom_told host m).regs of))) is away);
@@ -444,7 +445,7 @@ peek-searched {H} host m u v n was peek core now =
     }
 
 pub then-searched : {T H : Type 0} (r : Result T MemFault) (host : Ghosts H) (m u v : LoomMemory H host) (n : ℕ) → IsSearched host m u n → OnOk r (IsPeek host u v) → IsCore (core_of u.pager.levels.parts) → KeepsSound r (IsSound host v) → OnOk r (IsSearched host m v n)
-then-searched {T} {H} (Ok x) host m u v n was peek core now = peek-searched host m u v n was peek core now.kept.parts.core
+then-searched {T} {H} (Ok x) host m u v n was peek core now = peek-searched host m u v n was peek core v.pager.levels.whole.parts.core
 then-searched {T} {H} (Err f) host m u v n was peek core now = tt
 
 -- ---- a store into a field that is at hand
@@ -486,7 +487,7 @@ searched-change {H} host m u v n was rest core now =
     glance-change host m u v n (record { there = was.there; stays = was.stays; read = was.read; comes = was.comes; none = was.none }) (rest-glance host u v rest) core now
 
 pub then-change : {T H : Type 0} (r : Result T MemFault) (host : Ghosts H) (m u v : LoomMemory H host) (n : ℕ) → IsSearchedChange host m u n → OnOk r (IsGlance host u v) → IsCore (core_of u.pager.levels.parts) → KeepsSound r (IsSound host v) → OnOk r (IsSearchedChange host m v n)
-then-change {T} {H} (Ok x) host m u v n was glance core now = glance-change host m u v n was glance core now.kept.parts.core
+then-change {T} {H} (Ok x) host m u v n was glance core now = glance-change host m u v n was glance core v.pager.levels.whole.parts.core
 then-change {T} {H} (Err f) host m u v n was glance core now = tt
 
 -- changes of counts

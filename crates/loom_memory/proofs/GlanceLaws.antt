@@ -37,7 +37,7 @@ unfolding loom_told
 found-there {H} host m of w p part found sound same at body told =
     let disk = disk_of host m.pager.levels.disk.host.now m.pager.levels.disk.rest in
     part-here (loom_told host m) of (object_at (core_of m.pager.levels.parts) disk ((core_of m.pager.levels.parts).entries w) p) part found
-    (object-loaded (host.tells Work) (core_of m.pager.levels.parts) disk m.ledger.next w p ((loom_told host m).regs of) (told-tells host m told) sound.kept.parts.core at (register-is host m of w same)) (sym (body disk p at))
+    (object-loaded (host.tells Work) (core_of m.pager.levels.parts) disk m.ledger.next w p ((loom_told host m).regs of) (told-tells host m told) m.pager.levels.whole.parts.core at (register-is host m of w same)) (sym (body disk p at))
 
 pub found-told : {H : Type 0} (host : Ghosts H) (m : LoomMemory H host) (of w : ℕ) (part : Body → Option ℕ) (found : Option ℕ) → IsSound host m → w ≡ word_in m.regs of → IsSome (place_of ((core_of m.pager.levels.parts).entries w).state) → OfBody (core_of m.pager.levels.parts) w (λ b. found ≡ part b) → IsTrue (loom_told host m).tells → part_at (loom_told host m).heap ((loom_told host m).regs of) part ≡ found
 found-told {H} host m of w part found sound same there body =

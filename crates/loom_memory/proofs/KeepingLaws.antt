@@ -15,8 +15,10 @@ use Rattle.purger.proofs.MarkLaws.{marked-at}
 use Rattle.loom_memory.specs.declared.memory.LoomMemory.{LoomMemory}
 use Rattle.loom_memory.specs.Cache.{cache_of}
 use Rattle.loom_memory.specs.Makings.{HasThinned}
-use Rattle.loom_memory.specs.Memory.{loom_told, word_in, IsQuiet, IsSound}
-use Rattle.loom_memory.specs.Own.{HasSpace, IsAtHand, IsUnmarked, KeepsCache}
+use Rattle.loom_memory.specs.Memory.{loom_told, word_in, IsSound}
+use Rattle.loom_memory.specs.Gentle.{IsQuiet}
+use Rattle.loom_memory.specs.Own.{HasSpace, IsAtHand, IsUnmarked}
+use Rattle.loom_memory.specs.Gentle.{KeepsCache}
 use Rattle.loom_memory.proofs.CacheLaws.{cache-same}
 use Rattle.loom_memory.proofs.GentleLaws.{entry-at}
 
@@ -25,7 +27,7 @@ pub flag-off : {H : Type 0} (host : Ghosts H) (m : LoomMemory H host) (of s : �
 unfolding loom_told
 flag-off {H} host m of s sound ref same off =
     let it = entry-at host m of s sound ref same in
-    sym (marked-at (core_of m.pager.levels.parts) s sound.kept.parts.core it.used) ∙ ap (λ (v : Value). marked_of (core_of m.pager.levels.parts) (name_at v)) (sym it.name) ∙ off
+    sym (marked-at (core_of m.pager.levels.parts) s m.pager.levels.whole.parts.core it.used) ∙ ap (λ (v : Value). marked_of (core_of m.pager.levels.parts) (name_at v)) (sym it.name) ∙ off
 
 -- and counts differ
 pub counts-keep : {H : Type 0} (host : Ghosts H) (m n : LoomMemory H host) → IsSound host m → IsCore (core_of n.pager.levels.parts) → KeepsMarks (core_of m.pager.levels.parts) (core_of n.pager.levels.parts) → n.ledger.rows ≡ m.ledger.rows → n.ledger.mark ≡ m.ledger.mark → n.ledger.begun ≡ m.ledger.begun → KeepsCache host m n
@@ -34,7 +36,7 @@ counts-keep {H} host m n sound core keeps rows mark begun =
     ap (λ r. cache_of (core_of n.pager.levels.parts) (found r) n.ledger.mark n.ledger.begun) rows
     ∙ ap (λ (k : ℕ). cache_of (core_of n.pager.levels.parts) (found m.ledger.rows) k n.ledger.begun) mark
     ∙ ap (λ (b : Bool). cache_of (core_of n.pager.levels.parts) (found m.ledger.rows) m.ledger.mark b) begun
-    ∙ cache-same (core_of m.pager.levels.parts) (core_of n.pager.levels.parts) (found m.ledger.rows) m.ledger.mark m.ledger.begun sound.kept.parts.core core keeps sound.kept.cached
+    ∙ cache-same (core_of m.pager.levels.parts) (core_of n.pager.levels.parts) (found m.ledger.rows) m.ledger.mark m.ledger.begun m.pager.levels.whole.parts.core core keeps sound.kept.cached
 
 -- it was opened to be stored into
 pub opened-keeps : {H P : Type 0} (host : Ghosts H) (m u v : LoomMemory H host) (of s : ℕ) → IsSound host u → HasThinned (loom_told host m) (loom_told host u) → IsRef ((loom_told host m).regs of) → s ≡ word_in u.regs of → (P → KeepsCache host m u) → (((core_of u.pager.levels.parts).entries s).flags.marked ≡ false → v ≡ u)

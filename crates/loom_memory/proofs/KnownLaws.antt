@@ -35,9 +35,11 @@ use Rattle.leaf_lambda.specs.declared.parts.Parts.{Parts}
 use Rattle.leaf_lambda.specs.Parts.{core_of, spare_of}
 use Rattle.purger.specs.declared.room.Pinned.{Pinned}
 use Rattle.purger.specs.Purge.{IsShort}
+use Rattle.leaf_lambda.specs.Whole.{IsWhole}
 use Rattle.loom_memory.specs.declared.ledger.Ledger.{Ledger}
 use Rattle.loom_memory.specs.declared.memory.LoomMemory.{LoomMemory}
-use Rattle.loom_memory.specs.Memory.{pin_in, heap_if, loom_told, IsPinned, IsKept, IsSound, IsQuiet, IsRefused, IsSized}
+use Rattle.loom_memory.specs.Memory.{pin_in, heap_if, loom_told, IsPinned, IsKept, IsSound, IsRefused, IsSized}
+use Rattle.loom_memory.specs.Gentle.{IsQuiet}
 use Rattle.loom_memory.specs.Known.{IsEntryOf, IsSpent, IsNeedBeside, IsRefusedOf, IsNaming}
 use Rattle.loom_memory.proofs.FullLaws.{slots_by, heap_by, row-entries, row-words, no-entries}
 use Rattle.loom_memory.proofs.AccessLaws.{left-ready, refused-is, refused-quiet, after-quiet}
@@ -141,16 +143,16 @@ full-beside {H} host m u n words need x sound ready away sized is unfit refuses 
     subst (λ (f : MemFault). IsRefused (loom_told host m) u a f) (sym same)
     (refused-quiet (loom_told host m) (loom_told host m) u a (CoreFull need) (quiet-same host m) refuses ready silent none later (
       subst (λ b. ForBounds b (λ b. Fits b.core b.entries need.words need.entries → ⊥)) (sym (ap (λ (z : Told). z.bounds) refuses)) unfit,
-      λ told. one-row (loom_told host m) a need (beside-told (host.tells Work) (core_of m.pager.levels.parts) (disk_of host m.pager.levels.disk.host.now m.pager.levels.disk.rest) m.ledger.next n words m.pager.pinned need told sound.kept.parts.core sound.kept.pinned away (sized told) is ∙ sym (row-of-access (loom_told host m) a n row none)),
+      λ told. one-row (loom_told host m) a need (beside-told (host.tells Work) (core_of m.pager.levels.parts) (disk_of host m.pager.levels.disk.host.now m.pager.levels.disk.rest) m.ledger.next n words m.pager.pinned need told m.pager.levels.whole.parts.core sound.kept.pinned away (sized told) is ∙ sym (row-of-access (loom_told host m) a n row none)),
     ))
 
 -- no entry is free, and nothing more can go: the row has no room
-pub unfit-beside : (p : Parts) (regs : List ℕ) (pins : Pinned) (k : Ledger) (n words : ℕ) (need : Need) → IsKept p regs pins k → IsBare pins.a pins.b pins.d (core_of p) → spare_of p ≡ 0 → entries_of p.names.table ≡ free_of p.names.table + sum_below (bound_of p.names.table) (λ t. used_by (entry_at p.names.table t))
+pub unfit-beside : (p : Parts) (regs : List ℕ) (pins : Pinned) (k : Ledger) (n words : ℕ) (need : Need) → IsWhole p → IsKept p regs pins k → IsBare pins.a pins.b pins.d (core_of p) → spare_of p ≡ 0 → entries_of p.names.table ≡ free_of p.names.table + sum_below (bound_of p.names.table) (λ t. used_by (entry_at p.names.table t))
     → IsNeedBeside (core_of p) pins n words need → Fits k.core k.entries need.words need.entries → ⊥
 unfolding core_of
-unfit-beside p regs pins k n words need kept bare spent all is fits =
-    let row = row-entries (core_of p) (λ n. None) 0 n pins kept.parts.core kept.pinned in
-    no-entries (core_of p) (λ n. None) 0 n need.words (spare_of p) k.entries k.core regs pins kept.parts.core bare kept.many kept.rooted kept.pinned (sym kept.entries ∙ all) (omega (arith, spent)) (record { words = fits.words; leaves = (let most = fits.leaves in let count = is.entries in omega (arith, most, count, row)) })
+unfit-beside p regs pins k n words need whole kept bare spent all is fits =
+    let row = row-entries (core_of p) (λ n. None) 0 n pins whole.parts.core kept.pinned in
+    no-entries (core_of p) (λ n. None) 0 n need.words (spare_of p) k.entries k.core regs pins whole.parts.core bare kept.many kept.rooted kept.pinned (sym kept.entries ∙ all) (omega (arith, spent)) (record { words = fits.words; leaves = (let most = fits.leaves in let count = is.entries in omega (arith, most, count, row)) })
 
 -- ---- entries
 

@@ -45,7 +45,8 @@ use Rattle.leaf_lambda.specs.Parts.{core_of, IsParts, IsLeafStep}
 use Rattle.purger.specs.declared.room.Pinned.{Pinned}
 use Rattle.loom_memory.specs.declared.memory.LoomMemory.{LoomMemory}
 use Rattle.disk_objects.specs.Function.{disk_of}
-use Rattle.loom_memory.specs.Memory.{heap_if, loom_told, told_of, IsSound, IsCalm, IsQuiet, IsTaken, IsSilent, IsRefused, IsRefusalOf}
+use Rattle.loom_memory.specs.Memory.{heap_if, loom_told, told_of, IsSound, IsTaken, IsSilent, IsRefused, IsRefusalOf}
+use Rattle.loom_memory.specs.Gentle.{IsCalm, IsQuiet}
 use Rattle.core_view.specs.Kept.{IsValued}
 use Rattle.loom_memory.proofs.RegLaws.{kept-rooted}
 use Rattle.loom_memory.proofs.CalmLaws.{quiet-is}
@@ -136,7 +137,7 @@ pub calm-read : {H : Type 0} (host : Ghosts H) (m : LoomMemory H host) (q : Part
     → disk_of host new now ≡ disk_of host m.pager.levels.disk.host.now m.pager.levels.disk.rest → (IsTrue (host.tells Work) → held (core_of q) (disk_of host m.pager.levels.disk.host.now m.pager.levels.disk.rest) ≡ held (core_of m.pager.levels.parts) (disk_of host m.pager.levels.disk.host.now m.pager.levels.disk.rest))
     → IsQuiet (told_of host m.pager.levels.disk.host.now m.pager.levels.disk.rest (core_of m.pager.levels.parts) m.regs m.pager.pinned m.ledger) (told_of host new now (core_of q) m.regs m.pager.pinned m.ledger)
 calm-read {H} host m q new now sound parts calm read rest same keeps =
-    quiet-is host m.pager.levels.disk.host.now new m.pager.levels.disk.rest now (core_of m.pager.levels.parts) (core_of q) m.regs m.pager.pinned m.ledger (kept-rooted m.pager.levels.parts m.regs m.pager.pinned m.ledger sound.kept) parts.core sound.kept.cached calm
+    quiet-is host m.pager.levels.disk.host.now new m.pager.levels.disk.rest now (core_of m.pager.levels.parts) (core_of q) m.regs m.pager.pinned m.ledger (kept-rooted m.pager.levels.parts m.regs m.pager.pinned m.ledger m.pager.levels.whole sound.kept) parts.core sound.kept.cached calm
     (read-only host m.pager.levels.disk.host.now new read) (ap disk_room rest)
     (λ told. ap (λ (k : Disk). held (core_of q) k) same ∙ keeps told)
 

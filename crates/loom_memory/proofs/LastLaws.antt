@@ -26,7 +26,8 @@ use Rattle.object_table.specs.Entries.{is_used}
 use Rattle.purger.specs.declared.room.Pinned.{Pinned}
 use Rattle.loom_memory.specs.declared.ledger.Ledger.{Ledger}
 use Rattle.loom_memory.specs.Cache.{IsCached}
-use Rattle.loom_memory.specs.Memory.{told_of, IsCalm, IsQuiet, IsTaken, IsRefused}
+use Rattle.loom_memory.specs.Memory.{told_of, IsTaken, IsRefused}
+use Rattle.loom_memory.specs.Gentle.{IsCalm, IsQuiet}
 use Rattle.loom_memory.proofs.AccessLaws.{field-answered, same-trans, raised-trans, after-quiet, refused-is, left-ready}
 use Rattle.loom_memory.proofs.CacheLaws.{cache-same, left-trans}
 use Rattle.loom_memory.proofs.CalmLaws.{calm-told}

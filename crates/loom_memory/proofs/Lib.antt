@@ -25,6 +25,7 @@ pub mod BodyLaws
 pub mod SlotLaws
 pub mod RowLaws
 pub mod MarkingLaws
+pub mod EffectLaws
 pub mod EndLaws
 pub mod ClassLaws
 pub mod SayLaws

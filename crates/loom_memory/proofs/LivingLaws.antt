@@ -134,7 +134,7 @@ living host n s k kept exact told used name named = ⊎_elim (λ (known : is_kno
   t = loom_told host n
 
   found : c.find k ≡ Some s
-  found = subst (λ (q : ℕ). c.find q ≡ Some s) name (kept.parts.core.found s used)
+  found = subst (λ (q : ℕ). c.find q ≡ Some s) name (n.pager.levels.whole.parts.core.found s used)
 
   counted : 1 ≤ uses c s → 0 < count_of t.heap k
   counted some =
@@ -151,7 +151,7 @@ living host n s k kept exact told used name named = ⊎_elim (λ (known : is_kno
   by_root : 1 ≤ outside c s → (b : Bool) → is_root t k ≡ b → (is_root t k ≡ true) ⊎ (0 < count_of t.heap k)
   by_root some true e = inl e
   by_root some false e =
-      let none : outside_by c (c.find k) ≡ 0 = free-told c n.regs n.pager.pinned k (kept-rooted n.pager.levels.parts n.regs n.pager.pinned n.ledger kept) kept.many e in
+      let none : outside_by c (c.find k) ≡ 0 = free-told c n.regs n.pager.pinned k (kept-rooted n.pager.levels.parts n.regs n.pager.pinned n.ledger n.pager.levels.whole kept) kept.many e in
       let here : outside c s ≡ 0 = ap (outside_by c) (sym found) ∙ none in
       absurd (let no_ : ⊥ = omega (arith, some, here) in no_)
 
@@ -198,8 +198,8 @@ thin-swapped host m n w old sound kept exact heap swap was named = thin-is host 
 
       rooted : n.thinned ≡ true → IsTrue (host.tells Work) → (k : ℕ) → is_root (loom_told host m) k ≡ true → IsStillNamed (loom_told host n) k
       rooted on told k root =
-          let at = root-word x m.regs m.pager.pinned k (kept-rooted m.pager.levels.parts m.regs m.pager.pinned m.ledger sound.kept) root in
-          let used = outside-used x at.0 sound.kept.parts.core at.1.held in
+          let at = root-word x m.regs m.pager.pinned k (kept-rooted m.pager.levels.parts m.regs m.pager.pinned m.ledger m.pager.levels.whole sound.kept) root in
+          let used = outside-used x at.0 m.pager.levels.whole.parts.core at.1.held in
           let live = swap.live at.0 used in
           living host n at.0 k kept exact told live.0 (live.1 ∙ at.1.name) (refs-of at.0 on at.1.short at.1.held)
 
@@ -266,7 +266,7 @@ thin-rewritten host m q whole s p body sound regs slots changed = thin-is host _
     let o : Object = object_at x disk (x.entries s) p in
     let c = changed told in
     let name = (x.entries s).name in
-    let there = held-at x disk name s p (sound.kept.parts.core.found s (placed-used (x.entries s).state p c.place)) c.place in
+    let there = held-at x disk name s p (m.pager.levels.whole.parts.core.found s (placed-used (x.entries s).state p c.place)) c.place in
     let in_ = put-in host m (over_parts m q whole) o (record { class = o.class; body = body }) name refl told there c.stored in
     let had = put-had (loom_told host m).heap name k o (record { class = o.class; body = body }) in_.there (subst (λ (h : Heap). Has h k) in_.put has) in
     let count = ap (λ (h : Heap). count_of h k) in_.put ∙ count-same_fields (loom_told host m).heap name o body k (told-bounded host m sound.exact told) in_.there c.fields in

@@ -26,7 +26,8 @@ use Rattle.loom_memory.specs.Gentle.{Remains, IsResting, IsSteady}
 use Rattle.loom_memory.specs.Known.{IsEntryOf}
 use Rattle.loom_memory.specs.Makings.{HasMade, IsLost, OnCoreFull}
 use Rattle.loom_memory.specs.Memory.{loom_told, IsSound}
-use Rattle.loom_memory.specs.Own.{HasSpaceFor, IsAskedLast, IsSparingMaking, KeepsCache}
+use Rattle.loom_memory.specs.Own.{HasSpaceFor, IsAskedLast, IsSparingMaking}
+use Rattle.loom_memory.specs.Gentle.{KeepsCache}
 use Rattle.loom_memory.specs.Residents.{has_body, is_resident}
 use Rattle.loom_memory.proofs.AddLaws.{next-absent, told-next}
 use Rattle.loom_memory.proofs.GentleLaws.{resident-is, rest-trans}
@@ -81,16 +82,16 @@ made-kept {H} host m u v to class what sound there core next made bodies remains
     let both : true ≡ false = sym here ∙ ap (is_resident m) same ∙ next-away host m sound told in
     cc) in
     let before = made-had (loom_told host u).heap (loom_told host u).regs to class what k away (subst (λ (h : Heap). Has h k) (made.heap told) has) in
-    remains-residents u v there.kept.parts.core core remains k (held-residents m u (loom_told host u).heap sound.kept.parts.core there.kept.parts.core (bodies told) k here before)
+    remains-residents u v u.pager.levels.whole.parts.core core remains k (held-residents m u (loom_told host u).heap m.pager.levels.whole.parts.core u.pager.levels.whole.parts.core (bodies told) k here before)
 
 pub made-sparing : {T H : Type 0} (r : Result T MemFault) (host : Ghosts H) (m u v : LoomMemory H host) (to class : ℕ) (what : Making) (words : ℕ) → words ≡ 4 + body_words (body_made what) → IsSound host m → IsSound host u → KeepsSound r (IsSound host v)
     → (m.ledger.held < disk_room m.pager.levels.disk.rest → HasRoom m.pager.levels.parts words 27 → u ≡ m) → (m.ledger.made < 8 → HasRoom m.pager.levels.parts words 27 → u ≡ m) → u.ledger.next ≡ m.ledger.next → ((k : ℕ) → HasRoom m.pager.levels.parts k 27 → HasRoom u.pager.levels.parts k 27) → (IsTrue (host.tells Work) → KeepsHeld (core_of m.pager.levels.parts) (core_of u.pager.levels.parts) (loom_told host u).heap)
     → OnOk r (HasMade (loom_told host u) (loom_told host v) to class what) → OnOk r (HasRoom u.pager.levels.parts words 27 → IsResting u v) → OnOk r (HasRoom u.pager.levels.parts words 27 → KeepsCache host u v) → OnOk r (IsSparingMaking host m v what)
 made-sparing {T} {H} (Ok x) host m u v to class what words size sound there now roomy early next room bodies made rests keeps = record {
-  stays = λ space. remains-residents m v sound.kept.parts.core now.kept.parts.core (rest space).remains;
+  stays = λ space. remains-residents m v m.pager.levels.whole.parts.core v.pager.levels.whole.parts.core (rest space).remains;
   idle = λ space. (rest space).idle;
   cached = λ space. each (λ z. KeepsCache host z v) keeps space;
-  kept = λ told has. made-kept host m u v to class what sound there now.kept.parts.core next made bodies (rests (subst (λ (k : ℕ). HasRoom u.pager.levels.parts k 27) (sym size) (room (4 + body_words (body_made what)) has))).remains told;
+  kept = λ told has. made-kept host m u v to class what sound there v.pager.levels.whole.parts.core next made bodies (rests (subst (λ (k : ℕ). HasRoom u.pager.levels.parts k 27) (sym size) (room (4 + body_words (body_made what)) has))).remains told;
 }
   where
     from : (P : LoomMemory H host → Type 0) → (HasRoom u.pager.levels.parts words 27 → P u) → u ≡ m → HasRoom m.pager.levels.parts words 27 → P m

@@ -19,7 +19,8 @@ use Rattle.object_memory.specs.declared.fault.MemFault.TheVariants.{CoreFull, Wo
 use Rattle.object_memory.specs.Told.{Told, Bounds, Cache, IsReady}
 use Rattle.object_memory.specs.Contract.{Does, Accessed, HasCause, HasCore, IfBounds, IsLeft, LeavesAll, LeavesCache, Raised, SameBounds, need_of_access, no_names, work_faults}
 use Rattle.object_memory.specs.Plain.{refused}
-use Rattle.loom_memory.specs.Memory.{IsQuiet, IsRefused}
+use Rattle.loom_memory.specs.Memory.{IsRefused}
+use Rattle.loom_memory.specs.Gentle.{IsQuiet}
 use Rattle.loom_memory.specs.Makings.{HasMade, HasThinned, IsFullMaking, IsNotFull, IsRefusedAs, IsRefusedMaking}
 use Rattle.loom_memory.proofs.AccessLaws.{leaves, left-ready, raised-trans, refused-is, refused-ready, same-trans}
 use Rattle.loom_memory.proofs.CacheLaws.{left-trans}

@@ -22,21 +22,22 @@ use Rattle.core_view.specs.Core.{Core, with_entry}
 use Rattle.core_view.specs.Words.{meant}
 use Rattle.core_view.specs.Held.{Disk, held}
 use Rattle.core_view.specs.Counts.{outside}
-use Rattle.core_view.specs.Kept.{IsCore, IsTight, IsBacked, IsValued}
+use Rattle.core_view.specs.Kept.{IsCore, IsBacked, IsValued}
 use Rattle.core_view.proofs.Core.{placed-used, meant-names}
 use Rattle.core_view.proofs.Words.{meant-short}
 use Rattle.leaf_lambda.specs.declared.parts.Parts.{Parts}
 use Rattle.leaf_lambda.specs.Parts.{core_of, IsParts}
 use Rattle.method_cache.specs.Found.{found}
 use Rattle.purger.specs.declared.room.Pinned.{Pinned}
-use Rattle.purger.specs.Marks.{AreHere}
+use Rattle.leaf_lambda.specs.Whole.{IsWhole}
 use Rattle.loom_memory.specs.declared.ledger.Ledger.{Ledger}
 use Rattle.loom_memory.specs.Cache.{has_mark, is_word_of, row_by, cache_of, with_its_mark, IsCached, IsFresh}
 use Rattle.loom_memory.specs.Makings.{HasThinned}
-use Rattle.loom_memory.specs.Memory.{told_of, pin_in, name_if, word_in, IsPinned, IsKept, IsOver, IsQuiet, IsMarking}
+use Rattle.loom_memory.specs.Memory.{told_of, pin_in, name_if, word_in, IsPinned, IsKept, IsOver, IsMarking}
+use Rattle.loom_memory.specs.Gentle.{IsQuiet}
 use Rattle.loom_memory.proofs.RegLaws.{heap-same, ready-put}
 use Rattle.loom_memory.proofs.CacheLaws.{and-both, both-and}
-use Rattle.loom_memory.proofs.RowLaws.{none-marked, row-is, fresh-path, marked-stays, marked-outside, marked-tight, marked-fresh, marked-here, marked-same, left-marked}
+use Rattle.loom_memory.proofs.RowLaws.{none-marked, row-is, fresh-path, marked-stays, marked-outside, marked-fresh, marked-same, left-marked}
 
 -- ---- another cache in the ledger
 
@@ -51,15 +52,12 @@ ledger-told {H} host now rest c regs pins k l x is e =
 
 pub ledger-kept : (p : Parts) (regs : List ℕ) (pins : Pinned) (k l : Ledger) → IsKept p regs pins k → IsCaching k l → IsCached (core_of p) (found l.rows) l.mark → IsKept p regs pins l
 ledger-kept p regs pins k l kept is cached = subst (λ (z : Ledger). IsKept p regs pins z) (sym is) (record {
-  parts = kept.parts;
-  tight = kept.tight;
   size = kept.size;
   entries = kept.entries;
   rooted = kept.rooted;
   filled = kept.filled;
   many = kept.many;
   pinned = kept.pinned;
-  here = kept.here;
   cached = cached;
 })
 
@@ -102,22 +100,19 @@ mark-told {H} host now rest x y regs pins k l s core used is caching backed =
         let slots' : ◌≡◌ {A = ℕ → Option ℕ} (λ i. name_if (put x.entries s (with_its_mark (x.entries s))) (pin_in pins i)) (λ i. name_if x.entries (pin_in pins i)) = fun_ext (λ i. slot (pin_in pins i)) in
         λ i. record (told_of host now rest x regs pins k) { heap = heap i; regs = regs' i; slots = slots' i; cache = cache_of (with_entry x s (with_its_mark (x.entries s))) (found l.rows) l.mark l.begun }
 
-pub mark-kept : (p q : Parts) (regs : List ℕ) (pins : Pinned) (k l : Ledger) (s at : ℕ) → IsKept p regs pins k → IsParts q → place_of ((core_of p).entries s).state ≡ Some at → core_of q ≡ with_entry (core_of p) s (with_its_mark ((core_of p).entries s)) → q.segment ≡ p.segment
+pub mark-kept : (p q : Parts) (regs : List ℕ) (pins : Pinned) (k l : Ledger) (s at : ℕ) → IsWhole p → IsKept p regs pins k → IsParts q → place_of ((core_of p).entries s).state ≡ Some at → core_of q ≡ with_entry (core_of p) s (with_its_mark ((core_of p).entries s)) → q.segment ≡ p.segment
     → IsCaching k l → IsCached (core_of q) (found l.rows) l.mark → IsKept q regs pins l
 unfolding core_of
-mark-kept p q regs pins k l s at kept parts there is segment caching cached =
+mark-kept p q regs pins k l s at whole kept parts there is segment caching cached =
     let used = placed-used ((core_of p).entries s).state at there in
     let bound = ap (λ (c : Core). c.bound) is in
     subst (λ (z : Ledger). IsKept q regs pins z) (sym caching) (record {
-      parts = parts;
-      tight = subst IsTight (sym is) (marked-tight (core_of p) s kept.tight);
       size = ap size_of segment ∙ kept.size;
       entries = let was = kept.entries in omega arith;
-      rooted = λ t. ap (λ (c : Core). outside c t) is ∙ marked-outside (core_of p) s t kept.parts.core used ∙ kept.rooted t;
+      rooted = λ t. ap (λ (c : Core). outside c t) is ∙ marked-outside (core_of p) s t whole.parts.core used ∙ kept.rooted t;
       filled = kept.filled;
       many = kept.many;
       pinned = λ i. subst (λ (c : Core). IsPinned c (pin_in pins i)) (sym is) (λ some. let pin = kept.pinned i some in (pin.0, (pin.1.0, marked-same (core_of p) s (pin_in pins i) (λ (e : Entry). place_of e.state) (λ e. refl) ∙ pin.1.1)));
-      here = subst AreHere (sym is) (marked-here (core_of p) s at there kept.here);
       cached = cached;
     })
 

@@ -6,6 +6,7 @@ use Rattle.std.specs.Result.{OnOk}
 use Rattle.long_names.specs.Counting.{counted}
 use Rattle.long_names.specs.State.{set_register}
 use Rattle.long_names.specs.declared.value.Value.TheVariants.{Ref}
+use Rattle.purger.proofs.PagerLaws.{are-here}
 use Rattle.loom_memory.proofs.MakingLaws.{set_here}
 use Rattle.loom_host.specs.declared.outside.Host.{Ghosts}
 use Rattle.object_table.specs.Entries.{is_used, place_of}
@@ -26,8 +27,10 @@ use Rattle.loom_memory.specs.declared.ledger.Ledger.{Ledger}
 use Rattle.loom_memory.specs.declared.memory.LoomMemory.{LoomMemory}
 use Rattle.loom_memory.specs.Cache.{cache_of}
 use Rattle.loom_memory.specs.Gentle.{Remains, IsGlance, IsResting, IsSteady}
-use Rattle.loom_memory.specs.Memory.{loom_told, IsSound, IsStill}
-use Rattle.loom_memory.specs.Own.{IsBrought, IsSwept, KeepsCache, MindsCache}
+use Rattle.loom_memory.specs.Memory.{loom_told, IsSound}
+use Rattle.loom_memory.specs.Gentle.{IsStill}
+use Rattle.loom_memory.specs.Own.{IsBrought, IsSwept, MindsCache}
+use Rattle.loom_memory.specs.Gentle.{KeepsCache}
 use Rattle.loom_memory.specs.Residents.{has_body, is_resident, fetched}
 use Rattle.loom_memory.proofs.CacheLaws.{cache-same, emptied-is}
 
@@ -56,7 +59,7 @@ marks-here {H} host m sound k on = go ((core_of m.pager.levels.parts).find k) re
     go : (o : Option ℕ) → (core_of m.pager.levels.parts).find k ≡ o → marked_by (core_of m.pager.levels.parts).entries o ≡ true → has_body (core_of m.pager.levels.parts) ((core_of m.pager.levels.parts).find k) ≡ true
     go None e marked = absurd (cc)
     go (Some s) e marked =
-        let body = sound.kept.here s (sound.kept.parts.core.used k s e) marked in
+        let body = (are-here (core_of m.pager.levels.parts) m.pager.levels.whole.marks) s (m.pager.levels.whole.parts.core.used k s e) marked in
         ap (λ (o : Option ℕ). has_body (core_of m.pager.levels.parts) o) e ∙ ap (λ (o : Option ℕ). is_some o) body.1
 
 pub away-out : {H : Type 0} {host : Ghosts H} (m : LoomMemory H host) (k : ℕ) → IsCore (core_of m.pager.levels.parts) → is_resident m k ≡ false → IsOut (core_of m.pager.levels.parts) k
@@ -101,7 +104,7 @@ pub marks-keep : {H : Type 0} (host : Ghosts H) (m n : LoomMemory H host) → Is
 unfolding loom_told
 marks-keep {H} host m n sound core keeps ledger =
     ap (λ (k : Ledger). cache_of (core_of n.pager.levels.parts) (found k.rows) k.mark k.begun) ledger
-    ∙ cache-same (core_of m.pager.levels.parts) (core_of n.pager.levels.parts) (found m.ledger.rows) m.ledger.mark m.ledger.begun sound.kept.parts.core core keeps sound.kept.cached
+    ∙ cache-same (core_of m.pager.levels.parts) (core_of n.pager.levels.parts) (found m.ledger.rows) m.ledger.mark m.ledger.begun m.pager.levels.whole.parts.core core keeps sound.kept.cached
 
 -- a cache that is as an emptied one
 pub emptied-same : (marked : Option ℕ) (a b c : Cache) → c ≡ b → (e : IsEmptied marked a b) → IsEmptied marked a c
@@ -143,12 +146,12 @@ pub minds-left : {H : Type 0} (host : Ghosts H) (m n : LoomMemory H host) → Is
 unfolding loom_told emptied-for
 minds-left {H} host m n sound now rows mark begun x = record {
   here = marks-here host n now;
-  others = λ k off on. absurd (let none = out-away n k now.kept.parts.core (x.out k (away-out m k sound.kept.parts.core off)) in let both : false ≡ true = sym none ∙ on in cc);
-  cache = ⊎_elim (λ (keeps : KeepsMarks (core_of m.pager.levels.parts) (core_of n.pager.levels.parts)). inl (same ∙ cache-same (core_of m.pager.levels.parts) (core_of n.pager.levels.parts) (found m.ledger.rows) m.ledger.mark m.ledger.begun sound.kept.parts.core now.kept.parts.core keeps sound.kept.cached))
+  others = λ k off on. absurd (let none = out-away n k n.pager.levels.whole.parts.core (x.out k (away-out m k m.pager.levels.whole.parts.core off)) in let both : false ≡ true = sym none ∙ on in cc);
+  cache = ⊎_elim (λ (keeps : KeepsMarks (core_of m.pager.levels.parts) (core_of n.pager.levels.parts)). inl (same ∙ cache-same (core_of m.pager.levels.parts) (core_of n.pager.levels.parts) (found m.ledger.rows) m.ledger.mark m.ledger.begun m.pager.levels.whole.parts.core n.pager.levels.whole.parts.core keeps sound.kept.cached))
       (λ (lost : HasLostMarked (core_of m.pager.levels.parts) (core_of n.pager.levels.parts)). inr (record {
         emptied = emptied-for None (loom_told host m).cache (cache_of (core_of n.pager.levels.parts) (found m.ledger.rows) m.ledger.mark m.ledger.begun) (loom_told host n).cache lost.name same
-            (emptied-is (core_of m.pager.levels.parts) (core_of n.pager.levels.parts) (found m.ledger.rows) m.ledger.mark m.ledger.begun lost.name sound.kept.parts.core now.kept.parts.core sound.kept.cached lost.marked lost.none) lost.marked;
-        gone = inl (out-away n lost.name now.kept.parts.core lost.out);
+            (emptied-is (core_of m.pager.levels.parts) (core_of n.pager.levels.parts) (found m.ledger.rows) m.ledger.mark m.ledger.begun lost.name m.pager.levels.whole.parts.core n.pager.levels.whole.parts.core sound.kept.cached lost.marked lost.none) lost.marked;
+        gone = inl (out-away n lost.name n.pager.levels.whole.parts.core lost.out);
       })) x.marks;
 }
   where
@@ -164,15 +167,15 @@ pub minds-unmark : {H : Type 0} (host : Ghosts H) (m n : LoomMemory H host) (s :
 unfolding loom_told emptied-for
 minds-unmark {H} host m n s sound now ledger used step left idle = record {
   here = marks-here host n now;
-  others = λ k off on. absurd (let was = remains-residents n m now.kept.parts.core sound.kept.parts.core (came-remains (core_of m.pager.levels.parts) (core_of n.pager.levels.parts) (unmarked-came (core_of m.pager.levels.parts) (core_of n.pager.levels.parts) step)) k on in let both : false ≡ true = sym off ∙ was in cc);
+  others = λ k off on. absurd (let was = remains-residents n m n.pager.levels.whole.parts.core m.pager.levels.whole.parts.core (came-remains (core_of m.pager.levels.parts) (core_of n.pager.levels.parts) (unmarked-came (core_of m.pager.levels.parts) (core_of n.pager.levels.parts) step)) k on in let both : false ≡ true = sym off ∙ was in cc);
   cache = go ((core_of m.pager.levels.parts).entries s).flags.marked refl;
 }
   where
     go : (b : Bool) → ((core_of m.pager.levels.parts).entries s).flags.marked ≡ b → KeepsCache host m n ⊎ IsSwept host None m n (λ k. k ≡ ((core_of m.pager.levels.parts).entries s).name)
     go false e = inl (ap (λ (z : LoomMemory H host). (loom_told host z).cache) (idle e))
-    go true e = ⊎_elim (λ (keeps : KeepsMarks (core_of m.pager.levels.parts) (core_of n.pager.levels.parts)). inl (marks-keep host m n sound now.kept.parts.core keeps ledger)) (λ gone. inr (record {
+    go true e = ⊎_elim (λ (keeps : KeepsMarks (core_of m.pager.levels.parts) (core_of n.pager.levels.parts)). inl (marks-keep host m n sound n.pager.levels.whole.parts.core keeps ledger)) (λ gone. inr (record {
       emptied = emptied-for None (loom_told host m).cache (cache_of (core_of n.pager.levels.parts) (found m.ledger.rows) m.ledger.mark m.ledger.begun) (loom_told host n).cache ((core_of m.pager.levels.parts).entries s).name (ap (λ (k : Ledger). cache_of (core_of n.pager.levels.parts) (found k.rows) k.mark k.begun) ledger)
-          (emptied-is (core_of m.pager.levels.parts) (core_of n.pager.levels.parts) (found m.ledger.rows) m.ledger.mark m.ledger.begun ((core_of m.pager.levels.parts).entries s).name sound.kept.parts.core now.kept.parts.core sound.kept.cached (marked-at (core_of m.pager.levels.parts) s sound.kept.parts.core used ∙ e) gone.1) (marked-at (core_of m.pager.levels.parts) s sound.kept.parts.core used ∙ e);
+          (emptied-is (core_of m.pager.levels.parts) (core_of n.pager.levels.parts) (found m.ledger.rows) m.ledger.mark m.ledger.begun ((core_of m.pager.levels.parts).entries s).name m.pager.levels.whole.parts.core n.pager.levels.whole.parts.core sound.kept.cached (marked-at (core_of m.pager.levels.parts) s m.pager.levels.whole.parts.core used ∙ e) gone.1) (marked-at (core_of m.pager.levels.parts) s m.pager.levels.whole.parts.core used ∙ e);
       gone = inr refl;
     })) left
 
@@ -190,12 +193,12 @@ pub minds-come : {H : Type 0} (host : Ghosts H) (u v : LoomMemory H host) (s : �
     → MindsCache host None u v (λ k. k ≡ ((core_of u.pager.levels.parts).entries s).name)
 minds-come {H} host u v s sound now within name same = record {
   here = marks-here host v now;
-  others = λ k off on. came k (away-out u k sound.kept.parts.core off) on;
+  others = λ k off on. came k (away-out u k u.pager.levels.whole.parts.core off) on;
   cache = inl same;
 }
   where
     came : (k : ℕ) → IsOut (core_of u.pager.levels.parts) k → IsTrue (is_resident v k) → k ≡ ((core_of u.pager.levels.parts).entries s).name
-    came k out on = body-of v k now.kept.parts.core on (λ t p at is. ⊎_elim (λ (h : t ≡ s). sym is ∙ ap (λ (q : ℕ). ((core_of v.pager.levels.parts).entries q).name) h ∙ name)
+    came k out on = body-of v k v.pager.levels.whole.parts.core on (λ t p at is. ⊎_elim (λ (h : t ≡ s). sym is ∙ ap (λ (q : ℕ). ((core_of v.pager.levels.parts).entries q).name) h ∙ name)
         (λ (h : t ≢ s). absurd (let b = others-came (core_of u.pager.levels.parts) (core_of v.pager.levels.parts) s t p within h at in out t b.at b.place (sym b.name ∙ is))) (cases_eq t s))
 
 -- ---- steps after each other
@@ -278,7 +281,7 @@ minds-brought {T} {H} (Err f) host m u n name own sound parts same is before aft
 -- ---- a name that comes into a register
 
 pub minds-steady : {H : Type 0} (host : Ghosts H) (m n : LoomMemory H host) (about : ℕ → Type 0) → IsSound host m → IsCore (core_of n.pager.levels.parts) → IsSteady host m n → MindsCache host None m n about
-minds-steady {H} host m n about sound now steady = minds-still host m n about (marks-here host m sound) sound.kept.parts.core now steady.gentle.remains steady.none steady.gentle.cache
+minds-steady {H} host m n about sound now steady = minds-still host m n about (marks-here host m sound) m.pager.levels.whole.parts.core now steady.gentle.remains steady.none steady.gentle.cache
 
 pub steady-then : {T H : Type 0} (r : Result T MemFault) (host : Ghosts H) (m u n : LoomMemory H host) (about : ℕ → Type 0) → IsSound host m → IsCore (core_of u.pager.levels.parts) → IsSteady host m u → OnOk r (MindsCache host None u n about) → OnOk r (MindsCache host None m n about)
 steady-then {T} {H} (Ok v) host m u n about sound now steady x = minds-then host m u n about about about (λ k is. is) (λ k is. is) (minds-steady host m u about sound now steady) x
@@ -324,11 +327,11 @@ minds-mark {H} host m u v n x core now stays none count there marked = record {
 -- ---- a store
 
 pub minds-stored : {T H : Type 0} (r : Result T MemFault) (host : Ghosts H) (m u v : LoomMemory H host) (about : ℕ → Type 0) → MindsCache host None m u about → IsCore (core_of u.pager.levels.parts) → KeepsSound r (IsSound host v) → OnOk r (IsResting u v) → OnOk r (Remains (core_of v.pager.levels.parts) (core_of u.pager.levels.parts)) → OnOk r (KeepsCache host u v) → OnOk r (MindsCache host None m v about)
-minds-stored {T} {H} (Ok x) host m u v about was core now rest none same = minds-step host m u v about was core now.kept.parts.core rest.remains none same
+minds-stored {T} {H} (Ok x) host m u v about was core now rest none same = minds-step host m u v about was core v.pager.levels.whole.parts.core rest.remains none same
 minds-stored {T} {H} (Err f) host m u v about was core now rest none same = tt
 
 pub minds-found : {T H : Type 0} (r : Result T MemFault) (host : Ghosts H) (m u v : LoomMemory H host) (about : ℕ → Type 0) → MindsCache host None m u about → IsCore (core_of u.pager.levels.parts) → KeepsSound r (IsSound host v) → OnOk r (IsGlance host u v) → OnOk r (Remains (core_of v.pager.levels.parts) (core_of u.pager.levels.parts)) → OnOk r (KeepsCache host u v) → OnOk r (MindsCache host None m v about)
-minds-found {T} {H} (Ok x) host m u v about was core now glance none same = minds-step host m u v about was core now.kept.parts.core glance.remains none same
+minds-found {T} {H} (Ok x) host m u v about was core now glance none same = minds-step host m u v about was core v.pager.levels.whole.parts.core glance.remains none same
 minds-found {T} {H} (Err f) host m u v about was core now glance none same = tt
 
 -- ---- two objects that leave, and whose records are exchanged
@@ -358,12 +361,12 @@ minds-anew {H} host m u v base x is = minds-parts host m u v (λ k. ⊥) x (ap (
 pub minds-made : {H : Type 0} (host : Ghosts H) (m n : LoomMemory H host) (s name : ℕ) → IsSound host m → IsSound host n → ((core_of n.pager.levels.parts).entries s).name ≡ name → ((t p : ℕ) → t ≢ s → place_of ((core_of n.pager.levels.parts).entries t).state ≡ Some p → IsStill (core_of n.pager.levels.parts) (core_of m.pager.levels.parts) t) → KeepsCache host m n → MindsCache host None m n (λ k. k ≡ name)
 minds-made {H} host m n s name sound now named others same = record {
   here = marks-here host n now;
-  others = λ k off on. came k (away-out m k sound.kept.parts.core off) on;
+  others = λ k off on. came k (away-out m k m.pager.levels.whole.parts.core off) on;
   cache = inl same;
 }
   where
     came : (k : ℕ) → IsOut (core_of m.pager.levels.parts) k → IsTrue (is_resident n k) → k ≡ name
-    came k out on = body-of n k now.kept.parts.core on (λ t p at is. ⊎_elim (λ (h : t ≡ s). sym is ∙ ap (λ (q : ℕ). ((core_of n.pager.levels.parts).entries q).name) h ∙ named)
+    came k out on = body-of n k n.pager.levels.whole.parts.core on (λ t p at is. ⊎_elim (λ (h : t ≡ s). sym is ∙ ap (λ (q : ℕ). ((core_of n.pager.levels.parts).entries q).name) h ∙ named)
         (λ (h : t ≢ s). absurd (let b = others t p h at in out t b.at b.place (b.name ∙ is))) (cases_eq t s))
 
 -- its name comes into a register

@@ -48,7 +48,7 @@ use Rattle.purger.specs.Marks.{KeepsMarks}
 use Rattle.purger.proofs.GivingLaws.{given-here, given-purged, given-tight, giving-parts, giving-stays, giving-up}
 use Rattle.purger.proofs.MindLaws.{others-came}
 use Rattle.purger.proofs.MarkLaws.{Kept-refl, Kept-trans, Marks-same, Marks-trans, within-marks}
-use Rattle.loom_memory.specs.Memory.{IsCalm}
+use Rattle.loom_memory.specs.Gentle.{IsCalm}
 use Rattle.loom_memory.specs.New.{HasFew, IsNew, IsReadied, object_new, words_ahead}
 use Rattle.loom_memory.proofs.CalmLaws.{purged-calm, within-calm}
 use Rattle.loom_memory.proofs.LambdaLaws.{leaf-calm, still-calm}

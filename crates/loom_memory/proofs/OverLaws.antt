@@ -1,24 +1,16 @@
 -- A memory over other parts, or over another pager.
 use Rattle.loom_host.specs.declared.outside.Host.{Ghosts}
-use Rattle.std.proofs.Common.{◌≡◌, ℕ, List, sym, ap, subst}
+use Rattle.std.proofs.Common.{◌≡◌, sym, ap, subst}
 use Rattle.leaf_lambda.specs.declared.parts.Parts.{Parts}
 use Rattle.leaf_lambda.specs.Whole.{IsWhole, IsWhole-prop}
 use Rattle.purger.specs.declared.pager.Pager.{Pager}
-use Rattle.purger.specs.declared.room.Pinned.{Pinned}
-use Rattle.purger.proofs.PagerLaws.{whole-of}
-use Rattle.loom_memory.specs.declared.ledger.Ledger.{Ledger}
 use Rattle.loom_memory.specs.declared.memory.LoomMemory.{LoomMemory}
-use Rattle.loom_memory.specs.Memory.{IsKept}
 
 abbrev pub over_pager : {H : Type 0} {host : Ghosts H} → LoomMemory H host → Pager H host → LoomMemory H host
 over_pager m p = record m { pager = p }
 
 abbrev pub over_parts : {H : Type 0} {host : Ghosts H} → LoomMemory H host → (q : Parts) → IsWhole q → LoomMemory H host
 over_parts m q whole = record m { pager = record m.pager { levels = record m.pager.levels { parts = q; whole = whole } } }
-
--- what is kept of parts is what their type keeps
-pub kept-whole : (p : Parts) (regs : List ℕ) (pins : Pinned) (k : Ledger) → IsKept p regs pins k → IsWhole p
-kept-whole p regs pins k kept = whole-of p kept.parts kept.tight kept.here
 
 -- the same parts are the same memory
 pub over-same : {H : Type 0} {host : Ghosts H} (m : LoomMemory H host) (q : Parts) (whole : IsWhole q) → q ≡ m.pager.levels.parts → over_parts m q whole ≡ m

@@ -16,8 +16,10 @@ use Rattle.purger.proofs.PagerLaws.{are-here, moves-preserves, moves-spares, rea
 use Rattle.purger.proofs.SoundLaws.{has-number, has-objects, has-over}
 use Rattle.loom_memory.specs.declared.memory.LoomMemory.{LoomMemory}
 use Rattle.loom_memory.specs.Gentle.{IsGentle, IsPeek, IsResting}
-use Rattle.loom_memory.specs.Memory.{loom_outside, loom_told, told_of, IsCalm, IsKept, IsQuiet, IsSound}
-use Rattle.loom_memory.specs.Own.{KeepsCache, MindsCache}
+use Rattle.loom_memory.specs.Memory.{loom_outside, loom_told, told_of, IsKept, IsSound}
+use Rattle.loom_memory.specs.Gentle.{IsCalm, IsQuiet}
+use Rattle.loom_memory.specs.Own.{MindsCache}
+use Rattle.loom_memory.specs.Gentle.{KeepsCache}
 use Rattle.loom_memory.proofs.CalmLaws.{calm-kept, over-is, purged-calm, quiet-is, work-outside}
 use Rattle.loom_memory.proofs.DeadLaws.{thin-quiet}
 use Rattle.loom_memory.proofs.ExactLaws.{exact-has, exact-then}
@@ -48,7 +50,7 @@ pager-quiet {H} host m p sound x k =
     let a = m.pager in
     subst (λ (q : Pinned). IsQuiet (told_of host a.levels.disk.host.now a.levels.disk.rest (core_in a) m.regs a.pinned m.ledger) (told_of host p.levels.disk.host.now p.levels.disk.rest (core_in p) m.regs q m.ledger)) (sym x.pinned)
     (quiet-is host a.levels.disk.host.now p.levels.disk.host.now a.levels.disk.rest p.levels.disk.rest (core_in a) (core_in p) m.regs a.pinned m.ledger
-    (kept-rooted a.levels.parts m.regs a.pinned m.ledger sound.kept) p.levels.whole.parts.core sound.kept.cached (pager-calm a p x) x.disk.work x.disk.limit (λ told. (keeps-core host a p (pager-ready host m sound) k told).held))
+    (kept-rooted a.levels.parts m.regs a.pinned m.ledger a.levels.whole sound.kept) p.levels.whole.parts.core sound.kept.cached (pager-calm a p x) x.disk.work x.disk.limit (λ told. (keeps-core host a p (pager-ready host m sound) k told).held))
 
 pub pager-sound : {H : Type 0} (host : Ghosts H) (m : LoomMemory H host) (p : Pager H host) → IsSound host m → Spares m.pager p → Preserves m.pager p → IsSound host (over_pager m p)
 pager-sound {H} host m p sound x k =
@@ -56,7 +58,7 @@ pager-sound {H} host m p sound x k =
     let ready = pager-ready host m sound in
     record {
       kept = subst (λ (q : Pinned). IsKept p.levels.parts m.regs q m.ledger) (sym x.pinned)
-          (calm-kept a.levels.parts p.levels.parts m.regs a.pinned m.ledger sound.kept (pager-calm a p x) p.levels.whole.parts p.levels.whole.tight x.size);
+          (calm-kept a.levels.parts p.levels.parts m.regs a.pinned m.ledger a.levels.whole sound.kept (pager-calm a p x) p.levels.whole.parts x.size);
       over = over-is host a.levels.disk.host.now p.levels.disk.host.now a.levels.disk.rest p.levels.disk.rest (core_in a) (core_in p) m.ledger sound.over x.disk.limit
           (has-objects host p.levels.parts p.levels.disk.host.now p.levels.disk.rest (ready-after a p ready x k).sound) (keeps-core host a p ready k)
           (λ told. has-number host a.levels.parts p.levels.parts a.levels.disk.host.now p.levels.disk.host.now a.levels.disk.rest p.levels.disk.rest ready.sound told (sound-of a.levels p.levels k.keeps told));

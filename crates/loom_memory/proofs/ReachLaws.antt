@@ -28,7 +28,8 @@ use Rattle.long_names.specs.Access.{heap_after}
 use Rattle.long_names.specs.State.{IsRef}
 use Rattle.loom_memory.specs.Calls.{is_read}
 use Rattle.loom_memory.specs.Makings.{HasThinned}
-use Rattle.loom_memory.specs.Memory.{IsMarking, IsQuiet, IsRefused, IsSilent, IsTaken}
+use Rattle.loom_memory.specs.Memory.{IsMarking, IsRefused, IsSilent, IsTaken}
+use Rattle.loom_memory.specs.Gentle.{IsQuiet}
 use Rattle.loom_memory.specs.Says.{IsSaid}
 use Rattle.loom_memory.specs.Stores.{IsStored}
 use Rattle.loom_memory.proofs.BodyLaws.{part-still, part-told}

@@ -7,7 +7,7 @@ use Rattle.long_names.specs.Need.{words_alone, words_named}
 use Rattle.long_names.proofs.ThinLemmas.{IsThinner-refl}
 use Rattle.object_memory.specs.Told.{Told, Cache, Bounds}
 use Rattle.object_memory.specs.Contract.{SameBounds, Raised, IfBounds, HasCore, Accessed, LeavesCache, no_names, makes}
-use Rattle.loom_memory.specs.Memory.{IsQuiet}
+use Rattle.loom_memory.specs.Gentle.{IsQuiet}
 use Rattle.loom_memory.specs.Calls.{is_read}
 
 -- the words of an access are those of the object of its register

@@ -29,8 +29,10 @@ use Rattle.purger.specs.declared.room.Pinned.{Pinned}
 use Rattle.purger.specs.Marks.{AreHere, KeepsMarks}
 use Rattle.purger.proofs.MarkLaws.{Marks-same}
 use Rattle.purger.proofs.SoundLaws.{core-is, core-over}
+use Rattle.leaf_lambda.specs.Whole.{IsWhole}
 use Rattle.loom_memory.specs.declared.ledger.Ledger.{Ledger}
-use Rattle.loom_memory.specs.Memory.{told_of, IsCalm, IsKept, IsOver}
+use Rattle.loom_memory.specs.Memory.{told_of, IsKept, IsOver}
+use Rattle.loom_memory.specs.Gentle.{IsCalm}
 use Rattle.loom_memory.specs.Stores.{IsRecount}
 use Rattle.loom_memory.proofs.RegLaws.{kept-rooted}
 use Rattle.loom_memory.proofs.CalmLaws.{calm-kept, over-is}
@@ -98,18 +100,18 @@ recount-fresh c d r = ap (λ (n : ℕ). sum_below n (λ q. fresh_by (d.entries q
 
 -- ---- a memory
 
-pub recount-kept : (p q : Parts) (regs : List ℕ) (pins : Pinned) (k : Ledger) → IsKept p regs pins k → IsParts q → IsRecount (core_of p) (core_of q) → q.segment ≡ p.segment → IsKept q regs pins k
-recount-kept p q regs pins k kept parts r same = calm-kept p q regs pins k kept (recount-calm pins (core_of p) (core_of q) r) parts (recount-tight (core_of p) (core_of q) r kept.tight) (ap size_of same)
+pub recount-kept : (p q : Parts) (regs : List ℕ) (pins : Pinned) (k : Ledger) → IsWhole p → IsKept p regs pins k → IsParts q → IsRecount (core_of p) (core_of q) → q.segment ≡ p.segment → IsKept q regs pins k
+recount-kept p q regs pins k whole kept parts r same = calm-kept p q regs pins k whole kept (recount-calm pins (core_of p) (core_of q) r) parts (ap size_of same)
 
 pub recount-over : {H : Type 0} (host : Ghosts H) (now : H) (rest : DiskRest) (c d : Core) (k : Ledger) → IsOver host now rest c k → IsRecount c d → IsOver host now rest d k
 recount-over {H} host now rest c d k over r = over-is host now now rest rest c d k over refl over.stands
     (λ told. let keeps = r.stays (disk_of host now rest) (over.backed told) in record { backed = keeps.backed; held = keeps.held })
     (λ told. let same = recount-fresh c d r in omega (arith, same))
 
-pub recount-told : {H : Type 0} (host : Ghosts H) (now : H) (rest : DiskRest) (p q : Parts) (regs : List ℕ) (pins : Pinned) (k : Ledger) → IsKept p regs pins k → IsOver host now rest (core_of p) k → IsParts q → IsRecount (core_of p) (core_of q)
+pub recount-told : {H : Type 0} (host : Ghosts H) (now : H) (rest : DiskRest) (p q : Parts) (regs : List ℕ) (pins : Pinned) (k : Ledger) → IsWhole p → IsKept p regs pins k → IsOver host now rest (core_of p) k → IsParts q → IsRecount (core_of p) (core_of q)
     → told_of host now rest (core_of q) regs pins k ≡ told_of host now rest (core_of p) regs pins k
-recount-told {H} host now rest p q regs pins k kept over parts r =
-    told-still host now rest (core_of p) (core_of q) regs pins k (kept-rooted p regs pins k kept) parts.core kept.cached (recount-calm pins (core_of p) (core_of q) r) (recount-marks (core_of p) (core_of q) r)
+recount-told {H} host now rest p q regs pins k whole kept over parts r =
+    told-still host now rest (core_of p) (core_of q) regs pins k (kept-rooted p regs pins k whole kept) parts.core kept.cached (recount-calm pins (core_of p) (core_of q) r) (recount-marks (core_of p) (core_of q) r)
     (λ told. (r.stays (disk_of host now rest) (over.backed told)).held)
 
 -- ---- the call that changes them

@@ -33,9 +33,9 @@ use Rattle.leaf_lambda.specs.Parts.{IsHolding, IsDropping}
 use Rattle.method_cache.specs.Found.{found}
 use Rattle.purger.specs.Marks.{AreHere, KeepsMarks}
 use Rattle.purger.proofs.MarkLaws.{live-found}
+use Rattle.leaf_lambda.specs.Whole.{IsWhole}
 use Rattle.loom_memory.specs.Cache.{IsCached}
 use Rattle.loom_memory.proofs.CacheLaws.{cache-same, cached-same}
-use Rattle.core_view.proofs.Tight.{ref-tight}
 use Rattle.core_view.proofs.Fresh.{ref-fresh}
 use Rattle.loom_memory.specs.declared.ledger.Ledger.{Ledger}
 use Rattle.purger.specs.declared.room.Pinned.{Pinned}
@@ -193,25 +193,22 @@ word-is regs i to e low many = same regs i (omega arith) ∙ ap (word_in regs) e
 
 -- ---- what is kept
 
-pub kept-rooted : (p : Parts) (regs : List ℕ) (pins : Pinned) (k : Ledger) → IsKept p regs pins k → IsRooted (core_of p) regs pins
-kept-rooted p regs pins k kept = record { core = kept.parts.core; outside = kept.rooted; pinned = kept.pinned }
+pub kept-rooted : (p : Parts) (regs : List ℕ) (pins : Pinned) (k : Ledger) → IsWhole p → IsKept p regs pins k → IsRooted (core_of p) regs pins
+kept-rooted p regs pins k whole kept = record { core = whole.parts.core; outside = kept.rooted; pinned = kept.pinned }
 
-pub kept-then : (p q : Parts) (regs : List ℕ) (pins : Pinned) (k : Ledger) (to w old : ℕ) → IsKept p regs pins k → IsParts q → IsSwap (core_of p) (core_of q) w old → slice_get regs to ≡ Some old → to < length regs → w ≢ 0 → q.segment ≡ p.segment → IsKept q (slice_set regs to w) pins k
+pub kept-then : (p q : Parts) (regs : List ℕ) (pins : Pinned) (k : Ledger) (to w old : ℕ) → IsWhole p → IsKept p regs pins k → IsParts q → IsSwap (core_of p) (core_of q) w old → slice_get regs to ≡ Some old → to < length regs → w ≢ 0 → q.segment ≡ p.segment → IsKept q (slice_set regs to w) pins k
 unfolding core_of
-kept-then p q regs pins k to w old kept parts swap at low some segment =
-    let root = rooted-then (core_of p) (core_of q) regs pins to w old (kept-rooted p regs pins k kept) swap at parts.core in
+kept-then p q regs pins k to w old whole kept parts swap at low some segment =
+    let root = rooted-then (core_of p) (core_of q) regs pins to w old (kept-rooted p regs pins k whole kept) swap at parts.core in
     let bound = swap.step.bound in
     record {
-      parts = parts;
-      tight = ref-tight (core_of p) (core_of q) swap.step kept.tight;
       size = ap size_of segment ∙ kept.size;
       entries = let was = kept.entries in omega arith;
       rooted = root.outside;
       filled = filled-then regs to w low some kept.filled;
       many = length-set regs to w ∙ kept.many;
       pinned = root.pinned;
-      here = swap.here kept.here;
-      cached = cached-same (core_of p) (core_of q) (found k.rows) k.mark kept.parts.core parts.core swap.marks kept.cached;
+      cached = cached-same (core_of p) (core_of q) (found k.rows) k.mark whole.parts.core parts.core swap.marks kept.cached;
     }
 
 pub over-then : {H : Type 0} (host : Ghosts H) (now : H) (rest : DiskRest) (a d : Core) (k : Ledger) → Stays a d → IsRefStep a d → IsOver host now rest a k → IsOver host now rest d k

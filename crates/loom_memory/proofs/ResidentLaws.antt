@@ -42,7 +42,7 @@ only-pinned {H} host m n sound bare = go ((core_of m.pager.levels.parts).find n)
         at : (x : Option ℕ) → place_of ((core_of m.pager.levels.parts).entries s).state ≡ x → is_some x ≡ true → has_slot (loom_told host m).slots n ≡ true
         at None f here = absurd (cc)
         at (Some p) f here =
-            let core = sound.kept.parts.core in
+            let core = m.pager.levels.whole.parts.core in
             let used = core.used n s e in
             sym (slots-have (core_of m.pager.levels.parts) m.pager.pinned s n core sound.kept.pinned used (short-some s (core.short s used)) (sym (core.named n s e))) ∙ bare.pinned s p f
 
@@ -142,15 +142,12 @@ words-all c xs free size core tight is laid = let most = words-most c xs free si
 -- nothing that is kept speaks of how many came in
 pub fetched-kept : (p : Parts) (regs : List ℕ) (pins : Pinned) (k l : Ledger) (n : ℕ) → l ≡ record k { fetches = n } → IsKept p regs pins k → IsKept p regs pins l
 fetched-kept p regs pins k l n is kept = subst (λ (z : Ledger). IsKept p regs pins z) (sym is) (record {
-  parts = kept.parts;
-  tight = kept.tight;
   size = kept.size;
   entries = kept.entries;
   rooted = kept.rooted;
   filled = kept.filled;
   many = kept.many;
   pinned = kept.pinned;
-  here = kept.here;
   cached = kept.cached;
 })
 

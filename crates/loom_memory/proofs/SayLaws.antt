@@ -26,7 +26,8 @@ use Rattle.core_view.specs.Kept.{IsBacked, IsValued}
 use Rattle.core_view.specs.Purge.{fresh_of}
 use Rattle.leaf_lambda.specs.Parts.{core_of}
 use Rattle.loom_memory.specs.declared.memory.LoomMemory.{LoomMemory}
-use Rattle.loom_memory.specs.Memory.{heap_if, told_of, others_of, Others, IsOver, IsSound, IsQuiet, IsRefused}
+use Rattle.loom_memory.specs.Memory.{heap_if, told_of, others_of, Others, IsOver, IsSound, IsRefused}
+use Rattle.loom_memory.specs.Gentle.{IsQuiet}
 use Rattle.loom_memory.specs.Numbers.{IsNumbered}
 use Rattle.loom_memory.specs.Says.{IsSaid, IsPut}
 use Rattle.loom_memory.proofs.AccessLaws.{same-trans, raised-trans, left-ready}

@@ -24,8 +24,10 @@ use Rattle.purger.specs.Draining.{KeepsHeld}
 use Rattle.loom_memory.specs.declared.ledger.Ledger.{Ledger}
 use Rattle.loom_memory.specs.declared.memory.LoomMemory.{LoomMemory}
 use Rattle.loom_memory.specs.Numbers.{IsNumbered}
-use Rattle.loom_memory.specs.Memory.{loom_told, told_of, heap_if, IsQuiet, IsThin, IsSound}
-use Rattle.loom_memory.specs.Own.{HasRested, IsIdle, KeepsCache}
+use Rattle.loom_memory.specs.Memory.{loom_told, told_of, heap_if, IsThin, IsSound}
+use Rattle.loom_memory.specs.Gentle.{IsQuiet}
+use Rattle.loom_memory.specs.Own.{HasRested}
+use Rattle.loom_memory.specs.Gentle.{IsIdle, KeepsCache}
 use Rattle.loom_memory.specs.Cache.{cache_of}
 use Rattle.method_cache.specs.Found.{found}
 use Rattle.core_view.specs.Held.{held}
@@ -49,7 +51,7 @@ begun-kept {H} host m base sound numbers =
     let kept = sound.kept in
     let over = sound.over in
     record {
-      kept = record { parts = kept.parts; tight = kept.tight; size = kept.size; entries = kept.entries; rooted = kept.rooted; filled = kept.filled; many = kept.many; pinned = kept.pinned; here = kept.here; cached = kept.cached };
+      kept = record { size = kept.size; entries = kept.entries; rooted = kept.rooted; filled = kept.filled; many = kept.many; pinned = kept.pinned; cached = kept.cached };
       over = record { stands = over.stands; backed = over.backed; counted = over.counted; roomy = over.roomy; based = numbers; valued = over.valued };
       soon = sound.soon;
       exact = sound.exact;

@@ -25,14 +25,15 @@ use Rattle.core_view.specs.Room.{in_hand}
 use Rattle.core_view.proofs.Core.{placed-used}
 use Rattle.core_view.proofs.Words.{meant-short}
 use Rattle.core_view.proofs.Lists.{count-cons, one-here}
-use Rattle.core_view.proofs.Tight.{ref-tight}
 use Rattle.leaf_lambda.specs.declared.parts.Parts.{Parts}
 use Rattle.leaf_lambda.specs.Parts.{core_of, IsParts}
 use Rattle.method_cache.specs.Found.{found}
 use Rattle.purger.specs.declared.room.Pinned.{Pinned}
+use Rattle.leaf_lambda.specs.Whole.{IsWhole}
 use Rattle.loom_memory.specs.declared.ledger.Ledger.{Ledger}
 use Rattle.loom_memory.specs.Cache.{IsCached}
-use Rattle.loom_memory.specs.Memory.{told_of, pin_in, with_pin, name_if, word_in, IsPinned, IsKept, IsQuiet}
+use Rattle.loom_memory.specs.Memory.{told_of, pin_in, with_pin, name_if, word_in, IsPinned, IsKept}
+use Rattle.loom_memory.specs.Gentle.{IsQuiet}
 use Rattle.loom_memory.proofs.CacheLaws.{cache-same, cached-same}
 use Rattle.loom_memory.proofs.RegLaws.{IsRooted, IsSwap, count-append, ref-pinned, heap-same, register-means, kept-rooted}
 
@@ -139,22 +140,19 @@ slot-told {H} host now rest a d regs pins k slot w root core cached swap low bod
     let cache' = cache-same a d (found k.rows) k.mark k.begun root.core core swap.marks cached in
     λ i. record (told_of host now rest a regs pins k) { heap = heap i; regs = regs' i; slots = slots' i; cache = cache' i }
 
-pub slot-kept : (p q : Parts) (regs : List ℕ) (pins : Pinned) (k : Ledger) (slot w : ℕ) → IsKept p regs pins k → IsParts q → IsSwap (core_of p) (core_of q) w (pin_in pins slot) → slot < 3 → IsPinned (core_of p) w → q.segment ≡ p.segment → IsKept q regs (with_pin pins slot w) k
+pub slot-kept : (p q : Parts) (regs : List ℕ) (pins : Pinned) (k : Ledger) (slot w : ℕ) → IsWhole p → IsKept p regs pins k → IsParts q → IsSwap (core_of p) (core_of q) w (pin_in pins slot) → slot < 3 → IsPinned (core_of p) w → q.segment ≡ p.segment → IsKept q regs (with_pin pins slot w) k
 unfolding core_of
-slot-kept p q regs pins k slot w kept parts swap low body segment =
-    let root = slot-rooted (core_of p) (core_of q) regs pins slot w (kept-rooted p regs pins k kept) swap low body parts.core in
+slot-kept p q regs pins k slot w whole kept parts swap low body segment =
+    let root = slot-rooted (core_of p) (core_of q) regs pins slot w (kept-rooted p regs pins k whole kept) swap low body parts.core in
     let bound = swap.step.bound in
     record {
-      parts = parts;
-      tight = ref-tight (core_of p) (core_of q) swap.step kept.tight;
       size = ap size_of segment ∙ kept.size;
       entries = let was = kept.entries in omega arith;
       rooted = root.outside;
       filled = kept.filled;
       many = kept.many;
       pinned = root.pinned;
-      here = swap.here kept.here;
-      cached = cached-same (core_of p) (core_of q) (found k.rows) k.mark kept.parts.core parts.core swap.marks kept.cached;
+      cached = cached-same (core_of p) (core_of q) (found k.rows) k.mark whole.parts.core parts.core swap.marks kept.cached;
     }
 
 -- ---- the access

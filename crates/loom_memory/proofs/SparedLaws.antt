@@ -10,7 +10,8 @@ use Rattle.leaf_lambda.specs.Parts.{core_of}
 use Rattle.purger.specs.Purge.{HasRoom}
 use Rattle.loom_memory.specs.declared.memory.LoomMemory.{LoomMemory}
 use Rattle.loom_memory.specs.Gentle.{IsResting, IsSpared}
-use Rattle.loom_memory.specs.Own.{HasAllFor, HasSpaceFor, KeepsCache}
+use Rattle.loom_memory.specs.Own.{HasAllFor, HasSpaceFor}
+use Rattle.loom_memory.specs.Gentle.{KeepsCache}
 use Rattle.loom_memory.proofs.GentleLaws.{remains-trans}
 
 pub spared-trans : {H : Type 0} (host : Ghosts H) (a b c : LoomMemory H host) → IsSpared host a b → IsSpared host b c → IsSpared host a c

@@ -47,12 +47,13 @@ use Rattle.leaf_lambda.specs.Making.{HasBytes, InBytes, InMethod}
 use Rattle.method_cache.specs.Found.{found}
 use Rattle.purger.specs.declared.room.Pinned.{Pinned}
 use Rattle.purger.specs.Marks.{IsUnmarking, LeavesMarks}
-use Rattle.purger.proofs.MarkLaws.{marked-at, within-marks, unmarked-purged, unmarked-here, unmarked-tight, unmarked-fresh}
+use Rattle.purger.proofs.MarkLaws.{marked-at, within-marks, unmarked-purged, unmarked-here, unmarked-fresh}
 use Rattle.purger.proofs.NamingLaws.{unmarking-counts}
 use Rattle.purger.proofs.RoomLaws.{work-refl}
 use Rattle.loom_memory.specs.declared.memory.LoomMemory.{LoomMemory}
 use Rattle.loom_memory.specs.declared.ledger.Ledger.{Ledger}
-use Rattle.loom_memory.specs.Memory.{heap_if, loom_told, told_of, word_in, IsCalm, IsKept, IsOver, IsQuiet, IsRefused, IsSilent, IsSound}
+use Rattle.loom_memory.specs.Memory.{heap_if, loom_told, told_of, word_in, IsKept, IsOver, IsRefused, IsSilent, IsSound}
+use Rattle.loom_memory.specs.Gentle.{IsCalm, IsQuiet}
 use Rattle.loom_memory.specs.Stores.{IsStored}
 use Rattle.loom_memory.proofs.AccessLaws.{after-quiet, refused-is, same-trans, raised-trans}
 use Rattle.loom_memory.proofs.CacheLaws.{cache-same, left-then}
@@ -255,7 +256,7 @@ pub stored-is : {H : Type 0} (host : Ghosts H) (m : LoomMemory H host) (q : Part
     → (IsTrue (host.tells Work) → heap_if (host.tells Work) (held (core_of q) (disk_of host m.pager.levels.disk.host.now m.pager.levels.disk.rest)) m.ledger.next ≡ heap_after (heap_if (host.tells Work) (held (core_of m.pager.levels.parts) (disk_of host m.pager.levels.disk.host.now m.pager.levels.disk.rest)) m.ledger.next) (λ r. meant (core_of m.pager.levels.parts).entries [] 0 (word_in m.regs r)) a)
     → IsStored (told_of host m.pager.levels.disk.host.now m.pager.levels.disk.rest (core_of m.pager.levels.parts) m.regs m.pager.pinned m.ledger) (told_of host m.pager.levels.disk.host.now m.pager.levels.disk.rest (core_of q) m.regs m.pager.pinned m.ledger) a
 stored-is {H} host m q a of s p kept parts within at place name off is target word heap =
-    let core = kept.parts.core in
+    let core = m.pager.levels.whole.parts.core in
     let used = placed-used ((core_of m.pager.levels.parts).entries s).state p at in
     let calm = store-calm m.pager.pinned s p (core_of m.pager.levels.parts) (core_of q) core parts.core within at place name in
     let same = cache-same (core_of m.pager.levels.parts) (core_of q) (found m.ledger.rows) m.ledger.mark m.ledger.begun core parts.core (within-marks (core_of m.pager.levels.parts) (core_of q) s core parts.core within) kept.cached in
@@ -265,7 +266,7 @@ stored-is {H} host m q a of s p kept parts within at place name off is target wo
       heap = heap_if (host.tells Work) (held (core_of q) (disk_of host m.pager.levels.disk.host.now m.pager.levels.disk.rest)) m.ledger.next;
       bounds = (refl, refl, refl, omega arith, omega arith);
       counts = (refl, sym (add-zero m.ledger.made));
-      same = store-told host m.pager.levels.disk.host.now m.pager.levels.disk.rest (core_of m.pager.levels.parts) (core_of q) m.regs m.pager.pinned m.ledger (kept-rooted m.pager.levels.parts m.regs m.pager.pinned m.ledger kept) calm;
+      same = store-told host m.pager.levels.disk.host.now m.pager.levels.disk.rest (core_of m.pager.levels.parts) (core_of q) m.regs m.pager.pinned m.ledger (kept-rooted m.pager.levels.parts m.regs m.pager.pinned m.ledger m.pager.levels.whole kept) calm;
       cache = kept-cache (touched_by regs a) _ _ same
           (λ n touched.
           let it : n ≡ ((core_of m.pager.levels.parts).entries s).name = ref-name n ((core_of m.pager.levels.parts).entries s).name (sym (touched-is regs a of n is target ∙ ap (is_ref n) ref) ∙ touched) in
@@ -302,7 +303,7 @@ pub stored-own : {H : Type 0} (host : Ghosts H) (m : LoomMemory H host) (of i fr
     → IsStored (loom_told host m) (loom_told host m) (SetField of i from)
 unfolding loom_told
 stored-own {H} host m of i from s p w sound at some off word same =
-    let core = sound.kept.parts.core in
+    let core = m.pager.levels.whole.parts.core in
     let used = placed-used ((core_of m.pager.levels.parts).entries s).state p at.place in
     let ref : meant (core_of m.pager.levels.parts).entries [] 0 (word_in m.regs of) ≡ Ref ((core_of m.pager.levels.parts).entries s).name = ap (meant (core_of m.pager.levels.parts).entries [] 0) (sym word) ∙ meant-short (core_of m.pager.levels.parts).entries [] 0 s (core.short s used) in
     let disk = disk_of host m.pager.levels.disk.host.now m.pager.levels.disk.rest in
@@ -339,14 +340,14 @@ unmark-calm {H} host m q sound step out marks = purged-calm m.pager.pinned (core
 pub unmark-quiet : {H : Type 0} (host : Ghosts H) (m : LoomMemory H host) (q : Parts) → IsSound host m → IsParts q → Stays (core_of m.pager.levels.parts) (core_of q) → IsCalm m.pager.pinned (core_of m.pager.levels.parts) (core_of q)
     → IsQuiet (told_of host m.pager.levels.disk.host.now m.pager.levels.disk.rest (core_of m.pager.levels.parts) m.regs m.pager.pinned m.ledger) (told_of host m.pager.levels.disk.host.now m.pager.levels.disk.rest (core_of q) m.regs m.pager.pinned m.ledger)
 unmark-quiet {H} host m q sound parts stays calm =
-    quiet-is host m.pager.levels.disk.host.now m.pager.levels.disk.host.now m.pager.levels.disk.rest m.pager.levels.disk.rest (core_of m.pager.levels.parts) (core_of q) m.regs m.pager.pinned m.ledger (kept-rooted m.pager.levels.parts m.regs m.pager.pinned m.ledger sound.kept) parts.core sound.kept.cached calm (work-refl host m.pager.levels.disk.host.now) refl
+    quiet-is host m.pager.levels.disk.host.now m.pager.levels.disk.host.now m.pager.levels.disk.rest m.pager.levels.disk.rest (core_of m.pager.levels.parts) (core_of q) m.regs m.pager.pinned m.ledger (kept-rooted m.pager.levels.parts m.regs m.pager.pinned m.ledger m.pager.levels.whole sound.kept) parts.core sound.kept.cached calm (work-refl host m.pager.levels.disk.host.now) refl
     (λ told. (stays (disk_of host m.pager.levels.disk.host.now m.pager.levels.disk.rest) (sound.over.backed told)).held)
 
 pub unmark-sound : {H : Type 0} (host : Ghosts H) (m : LoomMemory H host) (q : Parts) (whole : AreWhole q) → IsSound host m → IsParts q → Stays (core_of m.pager.levels.parts) (core_of q) → IsUnmarking (core_of m.pager.levels.parts) (core_of q) → IsCalm m.pager.pinned (core_of m.pager.levels.parts) (core_of q) → q.segment ≡ m.pager.levels.parts.segment
     → IsSound host (over_parts m q whole)
 unfolding loom_told
 unmark-sound {H} host m q whole sound parts stays step calm segment = record {
-  kept = calm-kept m.pager.levels.parts q m.regs m.pager.pinned m.ledger sound.kept calm parts (unmarked-tight (core_of m.pager.levels.parts) (core_of q) step sound.kept.tight) (ap size_of segment);
+  kept = calm-kept m.pager.levels.parts q m.regs m.pager.pinned m.ledger m.pager.levels.whole sound.kept calm parts (ap size_of segment);
   over = over-is host m.pager.levels.disk.host.now m.pager.levels.disk.host.now m.pager.levels.disk.rest m.pager.levels.disk.rest (core_of m.pager.levels.parts) (core_of q) m.ledger sound.over refl sound.over.stands
       (λ told. let keeps = stays (disk_of host m.pager.levels.disk.host.now m.pager.levels.disk.rest) (sound.over.backed told) in record { backed = keeps.backed; held = keeps.held })
       (λ told. let same = unmarked-fresh (core_of m.pager.levels.parts) (core_of q) step in omega arith);
@@ -420,10 +421,10 @@ bytes-fields (Bytes bytes) i run = refl
 bytes-fields (Method header literals code) i run = refl
 
 -- what is kept where an object's words changed
-pub stored-kept : (p q : Parts) (regs : List ℕ) (pins : Pinned) (k : Ledger) (s at : ℕ) → IsKept p regs pins k → IsParts q → IsWithin s (core_of p) (core_of q) → place_of ((core_of p).entries s).state ≡ Some at → place_of ((core_of q).entries s).state ≡ place_of ((core_of p).entries s).state
+pub stored-kept : (p q : Parts) (regs : List ℕ) (pins : Pinned) (k : Ledger) (s at : ℕ) → AreWhole p → IsKept p regs pins k → IsParts q → IsWithin s (core_of p) (core_of q) → place_of ((core_of p).entries s).state ≡ Some at → place_of ((core_of q).entries s).state ≡ place_of ((core_of p).entries s).state
     → ((core_of q).entries s).name ≡ ((core_of p).entries s).name → size_of q.segment ≡ size_of p.segment → IsKept q regs pins k
-stored-kept p q regs pins k s at kept parts within there place name size =
-    calm-kept p q regs pins k kept (store-calm pins s at (core_of p) (core_of q) kept.parts.core parts.core within there place name) parts (within.tight kept.tight) size
+stored-kept p q regs pins k s at whole kept parts within there place name size =
+    calm-kept p q regs pins k whole kept (store-calm pins s at (core_of p) (core_of q) whole.parts.core parts.core within there place name) parts size
 
 pub stored-over : {H : Type 0} (host : Ghosts H) (now : H) (rest : DiskRest) (x y : Core) (k : Ledger) (s : ℕ) → IsOver host now rest x k → IsWithin s x y → fresh_by (y.entries s) ≡ fresh_by (x.entries s)
     → ((disk : Disk) → IsBacked x disk → IsBacked y disk) → ((disk : Disk) → IsBacked x disk → IsValued (held x disk) → IsValued (held y disk)) → IsOver host now rest y k

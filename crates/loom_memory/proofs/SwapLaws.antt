@@ -46,8 +46,10 @@ use Rattle.purger.specs.Purge.{IsPurgeFault}
 use Rattle.purger.specs.Rounds.{KeepsAllBut}
 use Rattle.purger.proofs.MarkLaws.{marked-at}
 use Rattle.purger.proofs.RoomLaws.{some-of}
+use Rattle.purger.proofs.PagerLaws.{are-here}
 use Rattle.loom_memory.specs.declared.memory.LoomMemory.{LoomMemory}
-use Rattle.loom_memory.specs.Memory.{heap_if, loom_told, name_if, pin_in, told_of, word_in, IsOver, IsQuiet, IsSound}
+use Rattle.loom_memory.specs.Memory.{heap_if, loom_told, name_if, pin_in, told_of, word_in, IsOver, IsSound}
+use Rattle.loom_memory.specs.Gentle.{IsQuiet}
 use Rattle.loom_memory.specs.Numbers.{IsNumbered}
 use Rattle.loom_memory.specs.Own.{IsPutAway}
 use Rattle.loom_memory.specs.Residents.{fetched, has_body, is_resident}
@@ -61,7 +63,7 @@ use Rattle.loom_memory.proofs.StoreLaws.{kept-cache, ref-name}
 -- ---- the entry of a register
 
 pub named-now : {H : Type 0} (host : Ghosts H) (m : LoomMemory H host) (of s : ℕ) → IsSound host m → IsReady (loom_told host m) → IsRef ((loom_told host m).regs of) → s ≡ word_in m.regs of → IsNamed host m m of s
-named-now {H} host m of s sound ready ref same = named-then host m m of s sound sound.kept.parts.core ready ref same (still-calm m.pager.pinned (core_of m.pager.levels.parts)) (quiet-same host m)
+named-now {H} host m of s sound ready ref same = named-then host m m of s sound m.pager.levels.whole.parts.core ready ref same (still-calm m.pager.pinned (core_of m.pager.levels.parts)) (quiet-same host m)
 
 -- what no slot names isn't pinned
 not-pin : (c : Core) (pins : Pinned) (i s : ℕ) → i < SLOTS → s ≢ 0 → IsUnpinned (λ i. name_if c.entries (pin_in pins i)) (c.entries s).name → eqb s (pin_in pins i) ≡ false
@@ -205,7 +207,7 @@ pub swapped-is : {H : Type 0} (host : Ghosts H) (m : LoomMemory H host) (new : H
 unfolding loom_told
 swapped-is {H} host m new now s t p q sound one two leaf away work room swaps =
     let put_ : (host.roles new Transcript).put ≡ (host.roles m.pager.levels.disk.host.now Transcript).put = ap (λ (r : RoleState). r.put) (work.others Transcript transcript-away) in
-    let core = sound.kept.parts.core in
+    let core = m.pager.levels.whole.parts.core in
     let regs : ℕ → Value = λ r. meant (core_of m.pager.levels.parts).entries [] 0 (word_in m.regs r) in
     record {
       heap = heap_if (host.tells Work) (held (core_of m.pager.levels.parts) (disk_of host new now)) m.ledger.next;
@@ -218,14 +220,14 @@ swapped-is {H} host m new now s t p q sound one two leaf away work room swaps =
     }
   where
     clear : (n : ℕ) (b : Bool) → is_ref n (meant (core_of m.pager.levels.parts).entries [] 0 (word_in m.regs p)) ≡ b → b || is_ref n (meant (core_of m.pager.levels.parts).entries [] 0 (word_in m.regs q)) ≡ true → marked_of (core_of m.pager.levels.parts) n ≡ false
-    clear n true e on = clear-of (core_of m.pager.levels.parts) s n (meant (core_of m.pager.levels.parts).entries [] 0 (word_in m.regs p)) sound.kept.parts.core sound.kept.here one.used leaf one.name e
-    clear n false e on = clear-of (core_of m.pager.levels.parts) t n (meant (core_of m.pager.levels.parts).entries [] 0 (word_in m.regs q)) sound.kept.parts.core sound.kept.here two.used away two.name on
+    clear n true e on = clear-of (core_of m.pager.levels.parts) s n (meant (core_of m.pager.levels.parts).entries [] 0 (word_in m.regs p)) m.pager.levels.whole.parts.core (are-here (core_of m.pager.levels.parts) m.pager.levels.whole.marks) one.used leaf one.name e
+    clear n false e on = clear-of (core_of m.pager.levels.parts) t n (meant (core_of m.pager.levels.parts).entries [] 0 (word_in m.regs q)) m.pager.levels.whole.parts.core (are-here (core_of m.pager.levels.parts) m.pager.levels.whole.marks) two.used away two.name on
 
 pub swapped-over : {H : Type 0} (host : Ghosts H) (m : LoomMemory H host) (new : H) (now : DiskRest) (s t : ℕ) → IsSound host m → is_used ((core_of m.pager.levels.parts).entries s).state ≡ true → is_used ((core_of m.pager.levels.parts).entries t).state ≡ true → place_of ((core_of m.pager.levels.parts).entries s).state ≡ None → place_of ((core_of m.pager.levels.parts).entries t).state ≡ None
     → disk_room now ≡ disk_room m.pager.levels.disk.rest → disk_held now ≡ disk_held m.pager.levels.disk.rest → (IsTrue (host.tells Work) → SwapsObjects host m.pager.levels.disk.host.now new m.pager.levels.disk.rest now ((core_of m.pager.levels.parts).entries s).name ((core_of m.pager.levels.parts).entries t).name)
     → IsOver host new now (core_of m.pager.levels.parts) m.ledger
 swapped-over {H} host m new now s t sound on also leaf away room many swaps =
-    let core = sound.kept.parts.core in
+    let core = m.pager.levels.whole.parts.core in
     let disk = disk_of host m.pager.levels.disk.host.now m.pager.levels.disk.rest in
     record {
       stands = λ told. (swaps told).stands told;
@@ -292,7 +294,7 @@ left-others {H} host m u of s sound now ref same one k away here = go ((core_of 
     go : (x : Option ℕ) → (core_of m.pager.levels.parts).find k ≡ x → has_body (core_of m.pager.levels.parts) x ≡ true → has_body (core_of u.pager.levels.parts) ((core_of u.pager.levels.parts).find k) ≡ true
     go None e here = absurd (cc)
     go (Some t) e here =
-        let old = sound.kept.parts.core in
+        let old = m.pager.levels.whole.parts.core in
         let body = some-of (place_of ((core_of m.pager.levels.parts).entries t).state) (is_some (place_of ((core_of m.pager.levels.parts).entries t).state)) refl here in
         let other : t ≢ s = (λ h. away (sym (old.named k t e) ∙ ap (λ (q : ℕ). ((core_of m.pager.levels.parts).entries q).name) h ∙ sym name)) in
         let stays = ⊎_elim (λ (e : t ≡ s). absurd (other e)) (λ (x : IsSameBody (core_of m.pager.levels.parts) (core_of u.pager.levels.parts) t body.0). x) (one t body.0 body.1) in

@@ -23,7 +23,8 @@ use Rattle.leaf_lambda.specs.declared.parts.Parts.{Parts}
 use Rattle.leaf_lambda.specs.Parts.{core_of}
 use Rattle.leaf_lambda.proofs.MergeLaws.{length-drop-of, length-take-of}
 use Rattle.loom_memory.specs.declared.memory.LoomMemory.{LoomMemory}
-use Rattle.loom_memory.specs.Memory.{loom_told, IsQuiet, IsRefused}
+use Rattle.loom_memory.specs.Memory.{loom_told, IsRefused}
+use Rattle.loom_memory.specs.Gentle.{IsQuiet}
 use Rattle.loom_memory.specs.Bodies.{OfBody, HasRun, LacksRun, bytes_from}
 use Rattle.loom_memory.specs.Calls.{IsLoaded}
 use Rattle.loom_memory.specs.Says.{IsSaid, IsText, text_at}

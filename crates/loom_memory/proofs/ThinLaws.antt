@@ -47,8 +47,10 @@ use Rattle.purger.proofs.ThinLaws.{thinned-number}
 use Rattle.object_memory.specs.Told.{Told, is_root}
 use Rattle.object_memory.specs.declared.fault.MemFault.{MemFault}
 use Rattle.object_memory.specs.Contract.{LeavesAll}
+use Rattle.leaf_lambda.specs.Whole.{IsWhole as AreWhole}
 use Rattle.loom_memory.specs.declared.ledger.Ledger.{Ledger}
-use Rattle.loom_memory.specs.Memory.{word_in, pin_in, name_if, heap_if, told_of, IsCalm, IsExact, IsKept, IsOver, IsPinned, IsRefusalOf, IsSound, IsStillNamed, NothingDead}
+use Rattle.loom_memory.specs.Memory.{word_in, pin_in, name_if, heap_if, told_of, IsExact, IsKept, IsOver, IsPinned, IsRefusalOf, IsSound, IsStillNamed, NothingDead}
+use Rattle.loom_memory.specs.Gentle.{IsCalm}
 use Rattle.loom_memory.specs.declared.memory.LoomMemory.{LoomMemory}
 use Rattle.loom_memory.specs.Makings.{HasKept, HasThinned}
 use Rattle.loom_memory.specs.Numbers.{IsNumbered}
@@ -168,6 +170,7 @@ thin-exact host p q was now before rest n x drained told =
     (left.drained.thinned.levels, left.drained.thinned.at, left.drained.thinned.sound, new-next host p q was now before rest n left)
 
 pub record IsThinStep {H : Type 0} (host : Ghosts H) (p q : Parts) (was now : H) (before rest : DiskRest) (regs : List ℕ) (pins : Pinned) (k : Ledger) : Type 0 where
+  pub whole : AreWhole p
   pub kept : IsKept p regs pins k
   pub exact : IsExact host p was before k.next []
   pub leaves : LeavesRest p q
@@ -178,18 +181,23 @@ pub record IsThinStep {H : Type 0} (host : Ghosts H) (p q : Parts) (was now : H)
 -- what freeing leaves of a memory
 pub thin-freed : {H : Type 0} (host : Ghosts H) (m : LoomMemory H host) (p : Pager H host) → IsSound host m → LeavesNamed m.pager p → (IsTrue (host.tells Work) → FreesAll m.pager p)
     → IsThinStep host m.pager.levels.parts p.levels.parts m.pager.levels.disk.host.now p.levels.disk.host.now m.pager.levels.disk.rest p.levels.disk.rest m.regs m.pager.pinned m.ledger
-thin-freed host m p sound leaves drained = record { kept = sound.kept; exact = sound.exact; leaves = leaves.rest; drained = drained; work = leaves.disk.work; limit = leaves.disk.limit }
+thin-freed host m p sound leaves drained = record { whole = m.pager.levels.whole; kept = sound.kept; exact = sound.exact; leaves = leaves.rest; drained = drained; work = leaves.disk.work; limit = leaves.disk.limit }
 
 step-calm : {H : Type 0} (host : Ghosts H) (p q : Parts) (was now : H) (before rest : DiskRest) (regs : List ℕ) (pins : Pinned) (k : Ledger) → IsThinStep host p q was now before rest regs pins k → IsCalm pins (core_of p) (core_of q)
-step-calm host p q was now before rest regs pins k x = thin-calm p q regs pins (kept-rooted p regs pins k x.kept) x.leaves
+step-calm host p q was now before rest regs pins k x = thin-calm p q regs pins (kept-rooted p regs pins k x.whole x.kept) x.leaves
 
 step-kept : {H : Type 0} (host : Ghosts H) (p q : Parts) (was now : H) (before rest : DiskRest) (regs : List ℕ) (pins : Pinned) (k : Ledger) → IsThinStep host p q was now before rest regs pins k → IsKept q regs pins k
-step-kept host p q was now before rest regs pins k x = calm-kept p q regs pins k x.kept (step-calm host p q was now before rest regs pins k x) x.leaves.parts x.leaves.tight x.leaves.size
+step-kept host p q was now before rest regs pins k x = calm-kept p q regs pins k x.whole x.kept (step-calm host p q was now before rest regs pins k x) x.leaves.parts x.leaves.size
+
+step-rooted : {H : Type 0} (host : Ghosts H) (p q : Parts) (was now : H) (before rest : DiskRest) (regs : List ℕ) (pins : Pinned) (k : Ledger) → IsThinStep host p q was now before rest regs pins k → IsRooted (core_of q) regs pins
+step-rooted host p q was now before rest regs pins k x =
+    let y = step-kept host p q was now before rest regs pins k x in
+    record { core = x.leaves.parts.core; outside = y.rooted; pinned = y.pinned }
 
 pub thin-kept : {H : Type 0} (host : Ghosts H) (p q : Parts) (was now : H) (before rest : DiskRest) (regs : List ℕ) (pins : Pinned) (k : Ledger) (n : ℕ) → IsThinStep host p q was now before rest regs pins k → IsKept q regs pins (record k { held = n })
 thin-kept host p q was now before rest regs pins k n x =
     let y = step-kept host p q was now before rest regs pins k x in
-    record { parts = y.parts; tight = y.tight; size = y.size; entries = y.entries; rooted = y.rooted; filled = y.filled; many = y.many; pinned = y.pinned; here = y.here; cached = y.cached }
+    record { size = y.size; entries = y.entries; rooted = y.rooted; filled = y.filled; many = y.many; pinned = y.pinned; cached = y.cached }
 
 -- what is told of the levels that are left
 record IsToldBy {H : Type 0} (host : Ghosts H) (p q : Parts) (was now : H) (before rest : DiskRest) (regs : List ℕ) (pins : Pinned) (k : Ledger) : Type 0 where
@@ -213,14 +221,14 @@ step-whole : {H : Type 0} (host : Ghosts H) (p q : Parts) (was now : H) (before 
 step-whole host p q was now before rest regs pins k x y =
     let t : Levels = y.left.drained.thinned.levels in
     let kept_ = step-kept host p q was now before rest regs pins k x in
-    let root = subst (λ (c : Core). IsRooted c regs pins) y.core (kept-rooted q regs pins k kept_) in
+    let root = subst (λ (c : Core). IsRooted c regs pins) y.core (step-rooted host p q was now before rest regs pins k x) in
     subst (λ (c : Core). IsWhole (heap_of t) (λ r. meant c.entries [] 0 (word_in regs r)) (λ i. name_if c.entries (pin_in pins i))) (sym y.core) (levels-whole t regs pins y.left.drained.thinned.sound root kept_.filled)
 
 pub thin-told : {H : Type 0} (host : Ghosts H) (p q : Parts) (was now : H) (before rest : DiskRest) (regs : List ℕ) (pins : Pinned) (k : Ledger) (n : ℕ) → IsThinStep host p q was now before rest regs pins k
     → HasThinned (told_of host was before (core_of p) regs pins k) (told_of host now rest (core_of q) regs pins (record k { held = n }))
 thin-told host p q was now before rest regs pins k n x =
     let calm = step-calm host p q was now before rest regs pins k x in
-    let root = kept-rooted p regs pins k x.kept in
+    let root = kept-rooted p regs pins k x.whole x.kept in
     record {
       same = thinned-told host was now before rest (core_of p) (core_of q) regs pins k n root calm (x.work.others Transcript transcript-away);
       thinning = λ told.
@@ -236,7 +244,7 @@ thin-told host p q was now before rest regs pins k n x =
       marked = λ told m on.
           let y = told-by host p q was now before rest regs pins k x told in
           subst (λ (h : Heap). Has h m) (sym y.new_heap) (levels-marked y.left.drained.thinned.levels m y.left.drained.thinned.sound (ap (λ (c : Core). marked_of c m) (sym y.core) ∙ on));
-      cache = cache-left (core_of p) (core_of q) (found k.rows) k.mark k.begun x.kept.parts.core x.leaves.parts.core x.leaves.marks x.kept.cached;
+      cache = cache-left (core_of p) (core_of q) (found k.rows) k.mark k.begun x.whole.parts.core x.leaves.parts.core x.leaves.marks x.kept.cached;
       bounds = (refl, refl, x.limit, x.work.later, (let said = x.work.other_faults Transcript transcript-away in omega (arith, said)));
       counts = (refl, sym (add-zero k.made));
     }
@@ -245,7 +253,7 @@ step-free : {H : Type 0} (host : Ghosts H) (p q : Parts) (was now : H) (before r
     → (m : ℕ) → is_root (told_of host now rest (core_of q) regs pins (record k { held = n })) m ≡ false → roots_of y.left.drained.thinned.levels m ≡ 0
 step-free host p q was now before rest regs pins k n x y m out =
     let kept_ = step-kept host p q was now before rest regs pins k x in
-    subst (λ (c : Core). outside_by c (c.find m) ≡ 0) y.core (free-told (core_of q) regs pins m (kept-rooted q regs pins k kept_) kept_.many out)
+    subst (λ (c : Core). outside_by c (c.find m) ≡ 0) y.core (free-told (core_of q) regs pins m (step-rooted host p q was now before rest regs pins k x) kept_.many out)
 
 pub thin-is-kept : {H : Type 0} (host : Ghosts H) (p q : Parts) (was now : H) (before rest : DiskRest) (regs : List ℕ) (pins : Pinned) (k : Ledger) (n : ℕ) → IsThinStep host p q was now before rest regs pins k
     → HasKept (told_of host was before (core_of p) regs pins k) (told_of host now rest (core_of q) regs pins (record k { held = n }))

@@ -19,7 +19,8 @@ use Rattle.disk_objects.specs.Disk.{disk_room}
 use Rattle.loom_memory.specs.declared.memory.LoomMemory.{LoomMemory}
 use Rattle.loom_memory.specs.Freed.{IsAlive, IsDoneOfLiving, IsFreed, IsFreedMaking, IsOnTime}
 use Rattle.loom_memory.specs.Makings.{HasBegun, HasMade, HasThinned}
-use Rattle.loom_memory.specs.Memory.{loom_told, word_in, IsNamedIn, IsQuiet, IsSound, IsThin}
+use Rattle.loom_memory.specs.Memory.{loom_told, word_in, IsNamedIn, IsSound, IsThin}
+use Rattle.loom_memory.specs.Gentle.{IsQuiet}
 use Rattle.loom_memory.specs.Own.{IsAtHand}
 use Rattle.loom_memory.specs.Says.{IsSpeech}
 use Rattle.loom_memory.specs.Thinned.{KeepsThinned, StaysThinned}
@@ -120,7 +121,7 @@ at-hand {H} host m of s i at w sound ref same there some =
       entry = s;
       at = at;
       word = w;
-      found = ap (λ (n : ℕ). (core_of m.pager.levels.parts).find n) (ap name_at it.name) ∙ sound.kept.parts.core.found s it.used;
+      found = ap (λ (n : ℕ). (core_of m.pager.levels.parts).find n) (ap name_at it.name) ∙ m.pager.levels.whole.parts.core.found s it.used;
       there = there;
       some = some;
     }

@@ -23,9 +23,10 @@ use Rattle.loom_memory.proofs.OverLaws.{over_parts}
 use Rattle.leaf_lambda.specs.Parts.{core_of, IsParts}
 use Rattle.method_cache.specs.Found.{found}
 use Rattle.purger.specs.Touches.{IsTouching}
-use Rattle.purger.proofs.TouchLaws.{touch-state, touch-name, touch-purged, touch-marks, touch-here, touch-tight, touch-fresh, touch-counts}
+use Rattle.purger.proofs.TouchLaws.{touch-state, touch-name, touch-purged, touch-marks, touch-here, touch-fresh, touch-counts}
 use Rattle.loom_memory.specs.declared.memory.LoomMemory.{LoomMemory}
-use Rattle.loom_memory.specs.Memory.{loom_told, name_if, pin_in, told_of, word_in, IsCalm, IsSound}
+use Rattle.loom_memory.specs.Memory.{loom_told, name_if, pin_in, told_of, word_in, IsSound}
+use Rattle.loom_memory.specs.Gentle.{IsCalm}
 use Rattle.loom_memory.specs.Gentle.{Remains, IsSteady}
 use Rattle.loom_memory.specs.Residents.{words_resident}
 use Rattle.loom_memory.proofs.CacheLaws.{cache-same}
@@ -50,14 +51,14 @@ use-told {H} host m q sound parts stays step =
     let heap = heap-same (host.tells Work) (held x disk) (held y disk) m.ledger.next (λ told. (stays disk (sound.over.backed told)).held) in
     let regs' : ◌≡◌ {A = ℕ → Value} (λ r. meant y.entries [] 0 (word_in m.regs r)) (λ r. meant x.entries [] 0 (word_in m.regs r)) = fun_ext (λ r. use-means x y (word_in m.regs r) step) in
     let slots' : ◌≡◌ {A = ℕ → Option ℕ} (λ i. name_if y.entries (pin_in m.pager.pinned i)) (λ i. name_if x.entries (pin_in m.pager.pinned i)) = fun_ext (λ i. ap (λ (n : ℕ). cond (eqb (pin_in m.pager.pinned i) 0) None (Some n)) (touch-name x y (pin_in m.pager.pinned i) step)) in
-    let cache' = cache-same x y (found m.ledger.rows) m.ledger.mark m.ledger.begun sound.kept.parts.core parts.core (touch-marks x y step) sound.kept.cached in
+    let cache' = cache-same x y (found m.ledger.rows) m.ledger.mark m.ledger.begun m.pager.levels.whole.parts.core parts.core (touch-marks x y step) sound.kept.cached in
     λ i. record (told_of host m.pager.levels.disk.host.now m.pager.levels.disk.rest x m.regs m.pager.pinned m.ledger) { heap = heap i; regs = regs' i; slots = slots' i; cache = cache' i }
 
 pub use-sound : {H : Type 0} (host : Ghosts H) (m : LoomMemory H host) (q : Parts) (whole : IsWhole q) → IsSound host m → IsParts q → Stays (core_of m.pager.levels.parts) (core_of q) → IsTouching (core_of m.pager.levels.parts) (core_of q) → ((t : ℕ) → outside (core_of q) t ≡ outside (core_of m.pager.levels.parts) t) → q.segment ≡ m.pager.levels.parts.segment
     → IsSound host (over_parts m q whole)
 unfolding loom_told
 use-sound {H} host m q whole sound parts stays step out segment = record {
-  kept = calm-kept m.pager.levels.parts q m.regs m.pager.pinned m.ledger sound.kept (calm-of m q step out) parts (touch-tight (core_of m.pager.levels.parts) (core_of q) step sound.kept.tight) (ap size_of segment);
+  kept = calm-kept m.pager.levels.parts q m.regs m.pager.pinned m.ledger m.pager.levels.whole sound.kept (calm-of m q step out) parts (ap size_of segment);
   over = over-is host m.pager.levels.disk.host.now m.pager.levels.disk.host.now m.pager.levels.disk.rest m.pager.levels.disk.rest (core_of m.pager.levels.parts) (core_of q) m.ledger sound.over refl sound.over.stands
       (λ told. let keeps = stays (disk_of host m.pager.levels.disk.host.now m.pager.levels.disk.rest) (sound.over.backed told) in record { backed = keeps.backed; held = keeps.held })
       (λ told. let same = touch-fresh (core_of m.pager.levels.parts) (core_of q) step in omega arith);

@@ -18,7 +18,7 @@ use Rattle.purger.proofs.MarkLaws.{unmarked-here, unmarked-tight}
 use Rattle.purger.proofs.PagerLaws.{are-here, whole-of}
 use Rattle.purger.proofs.TouchLaws.{touch-here, touch-tight}
 use Rattle.loom_memory.specs.Cache.{with_its_mark}
-use Rattle.loom_memory.specs.Memory.{IsCalm}
+use Rattle.loom_memory.specs.Gentle.{IsCalm}
 use Rattle.loom_memory.specs.New.{IsNew, IsReadied}
 use Rattle.loom_memory.proofs.CalmLaws.{store-calm, within-calm}
 use Rattle.loom_memory.specs.Stores.{IsRecount}

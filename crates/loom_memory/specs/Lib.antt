@@ -18,3 +18,4 @@ pub mod Thinned
 pub mod Freed
 pub mod Beginning
 pub mod Ending
+pub mod Effects

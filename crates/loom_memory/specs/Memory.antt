@@ -34,7 +34,7 @@ use Rattle.core_view.specs.Held.{Disk, held}
 use Rattle.core_view.specs.Counts.{names, outside}
 use Rattle.core_view.specs.Kept.{IsBacked, IsValued}
 use Rattle.leaf_lambda.specs.declared.parts.Parts.{Parts}
-use Rattle.leaf_lambda.specs.Parts.{core_of, IsParts}
+use Rattle.leaf_lambda.specs.Parts.{core_of}
 use Rattle.loom_memory.specs.declared.ledger.Ledger.{Ledger}
 use Rattle.purger.specs.declared.room.Pinned.{Pinned}
 use Rattle.loom_memory.specs.declared.memory.LoomMemory.{LoomMemory}
@@ -42,13 +42,11 @@ use Rattle.object_memory.specs.Contract.{SameBounds, Raised, Does, IsLater, Refu
 use Rattle.method_cache.specs.Found.{found}
 use Rattle.purger.specs.declared.eviction.TheConstants.{NOWHERE}
 use Rattle.purger.specs.Counts.{StandsFor}
-use Rattle.purger.specs.Marks.{AreHere, LeavesMarks}
 use Rattle.core_view.specs.Levels.{Levels}
 use Rattle.core_view.specs.Counted.{IsSound as AreSound}
 use Rattle.loom_memory.specs.Cache.{has_mark, cache_of, IsCached}
 use Rattle.loom_memory.specs.Numbers.{IsNumbered}
-use Rattle.core_view.specs.Kept.{IsTight}
-use Rattle.core_view.specs.Room.{in_hand, is_among, over_three, room_for, entries_for}
+use Rattle.core_view.specs.Room.{in_hand, over_three, room_for, entries_for}
 use Rattle.disk_objects.specs.Function.{disk_of}
 use Rattle.core_view.specs.Purge.{fresh_of}
 
@@ -116,17 +114,14 @@ loom_told host m = told_of host (loom_now m) (loom_rest m) (loom_core m) m.regs 
 abbrev pub IsPinned : Core → ℕ → Type 0
 IsPinned c w = w ≢ 0 → (is_short w ≡ true) × ((p : ℕ) × (place_of (c.entries w).state ≡ Some p))
 
--- what is kept, of the parts alone
+-- what is kept of the parts, beside what their type keeps
 pub record IsKept (p : Parts) (regs : List ℕ) (pins : Pinned) (k : Ledger) : Type 0 where
-  pub parts : IsParts p
-  pub tight : IsTight (core_of p)
   pub size : size_of p.segment ≡ k.core
   pub entries : entries_of p.names.table ≡ k.entries
   pub rooted : (t : ℕ) → outside (core_of p) t ≡ count_by (names t) (in_hand regs pins.a pins.b pins.d)
   pub filled : (r : ℕ) → word_in regs r ≢ 0
   pub many : length regs ≡ REGISTERS
   pub pinned : (i : ℕ) → IsPinned (core_of p) (pin_in pins i)
-  pub here : AreHere (core_of p)
   pub cached : IsCached (core_of p) (found k.rows) k.mark
 
 -- and with the disk
@@ -191,28 +186,6 @@ others_of told r s n = record { role = s; faults = n }
 
 unfoldable pub loom_outside : {H : Type 0} (host : Ghosts H) → LoomMemory H host → Role → Others
 loom_outside host m r = others_of (host.tells Work) r (host.roles (loom_now m) r) (host.faults (loom_now m) r)
-
--- an entry has a body, and its name
-pub record IsStill (old new : Core) (s : ℕ) : Type 0 where
-  pub at : ℕ
-  pub place : place_of (new.entries s).state ≡ Some at
-  pub name : (new.entries s).name ≡ (old.entries s).name
-
--- objects came and went, but what registers and slots hold is as it was
-pub record IsCalm (pins : Pinned) (old new : Core) : Type 0 where
-  pub bound : new.bound ≡ old.bound
-  pub same_outside : (t : ℕ) → outside new t ≡ outside old t
-  pub live : (t : ℕ) → 1 ≤ outside old t → (new.entries t).name ≡ (old.entries t).name
-  pub pinned : (t p : ℕ) → is_among pins.a pins.b pins.d t ≡ true → place_of (old.entries t).state ≡ Some p → IsStill old new t
-  pub marks : LeavesMarks old new
-  pub here : AreHere old → AreHere new
-
--- nothing of what is told changed but how often calls failed, and that all marks and rows may be gone
-pub record IsQuiet (old new : Told) : Type 0 where
-  pub same : new ≡ (record old { bounds = new.bounds; cache = new.cache })
-  pub cache : LeavesCache no_names None old.cache old.cache new.cache
-  pub bounds : SameBounds old.bounds new.bounds
-  pub counts : Raised 0 old.bounds new.bounds
 
 -- an object was marked, and rows may have left
 pub record IsMarking (old new : Told) (n : ℕ) : Type 0 where

@@ -20,7 +20,7 @@ use Rattle.purger.specs.declared.room.Pinned.{Pinned}
 use Rattle.purger.specs.Marks.{KeepsMarks}
 use Rattle.loom_memory.specs.Known.{IsEntryOf}
 use Rattle.loom_memory.specs.Gentle.{Remains}
-use Rattle.loom_memory.specs.Memory.{IsCalm, IsStill}
+use Rattle.loom_memory.specs.Gentle.{IsCalm, IsStill}
 
 -- what is made of a kind, so many values, words or bytes, and the header word of a method
 abbrev pub making_of : Kind → ℕ → ℕ → Making

@@ -22,6 +22,7 @@ use Rattle.purger.specs.Purge.{HasRoom}
 use Rattle.loom_memory.specs.declared.load.TheConstants.{SPARE_ENTRIES}
 use Rattle.loom_memory.specs.declared.memory.LoomMemory.{LoomMemory}
 use Rattle.loom_memory.specs.Memory.{loom_told, loom_core, loom_now, loom_parts, loom_rest}
+use Rattle.loom_memory.specs.Gentle.{IsIdle, KeepsCache}
 use Rattle.loom_memory.specs.Residents.{is_resident, words_resident, fetched}
 
 -- The object of a name is in the core; or as many entries are free there as a call asks for, and the words that it takes.
@@ -31,12 +32,6 @@ HasPlace host m n = IsTrue (is_resident m n) ⊎ (IsTrue (host.tells Work) × Ha
 -- each object in the core stays there
 abbrev pub KeepsResidents : {H : Type 0} {host : Ghosts H} → LoomMemory H host → LoomMemory H host → Type 0
 KeepsResidents old new = (k : ℕ) → IsTrue (is_resident old k) → IsTrue (is_resident new k)
-
--- Work isn't touched, and no object comes in
-pub record IsIdle {H : Type 0} {ghosts : Ghosts H} (old new : LoomMemory H ghosts) : Type 0 where
-  pub host : loom_now new ≡ loom_now old
-  pub rest : loom_rest new ≡ loom_rest old
-  pub fetches : fetched new ≡ fetched old
 
 -- An object came in: that of the name n.
 abbrev pub IsBrought : {H : Type 0} {host : Ghosts H} → LoomMemory H host → LoomMemory H host → ℕ → ℕ → Type 0
@@ -141,10 +136,6 @@ pub record IsSparing {A H : Type 0} (host : Ghosts H) (old new : LoomMemory H ho
   pub bounded : OnOk result (ForBounds (loom_told host new).bounds (λ b. words_resident new ≤ b.core))
   pub cached : OnOk result (HasPlace host old n → (loom_told host new).cache ≡ (loom_told host old).cache)
   pub minds : OnOk result (MindsCache host None old new (IsBrought old new n))
-
--- The method cache is as it was.
-abbrev pub KeepsCache : {H : Type 0} (host : Ghosts H) → LoomMemory H host → LoomMemory H host → Type 0
-KeepsCache host old new = (loom_told host new).cache ≡ (loom_told host old).cache
 
 -- The object of a name isn't marked: a store into it takes no mark and no row away.
 abbrev pub IsUnmarked : {H : Type 0} (host : Ghosts H) → LoomMemory H host → ℕ → Type 0

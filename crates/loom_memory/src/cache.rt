@@ -71,6 +71,9 @@ fn refresh(p: &Parts, k: &mut Ledger)
 }
 
 impl<'h, H: Host> LoomMemory<'h, H> {
+    ghost use Rattle.loom_memory.specs.Effects.{LeavesBeside};
+    ghost use Rattle.object_memory.specs.Fit.{KeepsCallable, MayCall, StaysCallable};
+    ghost use Rattle.std.specs.Prelude.{Ok};
     ghost use Rattle.loom_memory.specs.Gentle.{IsResting, IsSteady, Remains};
     ghost use Rattle.loom_memory.specs.Damage.{IsDamaged};
     ghost use Rattle.loom_memory.specs.Thinned.{StaysThinned};
@@ -80,7 +83,6 @@ impl<'h, H: Host> LoomMemory<'h, H> {
     ghost use Rattle.long_names.specs.State.{name_at};
     ghost use Rattle.long_names.specs.Access.{Mark, Nothing};
     ghost use Rattle.object_memory.specs.Contract.{Accessed, IsFound, IsPut, IsUnknown, MayDo, is_marked, with_mark};
-    ghost use Rattle.object_memory.specs.Fit.{KeepsCallable, MayCall, StaysCallable};
     ghost use Rattle.loom_memory.specs.Memory.{loom_told, loom_outside, loom_lender, word_in, loom_core, IsMarking, IsRemembered, IsSound};
 
     /// A new lookup path begins, and is whole.
@@ -102,14 +104,12 @@ impl<'h, H: Host> LoomMemory<'h, H> {
         requires sound { IsSound H.Host self.old }
         requires there { (at : ℕ) × (place_of ((loom_core self.old).entries s.0).state ≡ Some at) }
         ensures marked { IsMarking (loom_told H.Host self.old) (loom_told H.Host self.new) ((loom_core self.old).entries s.0).name }
-        ensures sound { IsSound H.Host self.new }
+        ensures leaves { LeavesBeside H.Host self.old self.new (Ok result) }
         ensures resting { IsResting self.old self.new }
         ensures none { Remains (loom_core self.new) (loom_core self.old) }
         ensures cached { (loom_told H.Host self.new).cache ≡ with_mark (loom_told H.Host self.old).cache (Some ((loom_core self.old).entries s.0).name) }
         ensures due { self.new.due ≡ self.old.due }
         ensures flag { self.new.thinned ≡ self.old.thinned }
-        ensures lender { loom_lender self.new ≡ loom_lender self.old }
-        ensures outside { loom_outside H.Host self.new ≡ loom_outside H.Host self.old }
     {
         let levels = &mut self.pager.levels;
         refresh(&levels.parts, &mut self.ledger);

@@ -10,8 +10,8 @@ ghost use Rattle.leaf_lambda.specs.Parts.{core_of, spare_of, IsParts};
 ghost use Rattle.loom_memory.specs.declared.load.TheConstants.{SPARE_BEHIND_CLASS, SPARE_ENTRIES as SPARE};
 
 use crate::below::is_below;
-use crate::bring::refusal_of;
 use crate::memory::LoomMemory;
+use crate::refusals::refusal_of;
 use core_segment::Addr;
 use leaf_lambda::leaving::field_total;
 use leaf_lambda::numbers::short_int;
@@ -43,6 +43,9 @@ pub(crate) fn word_in_body(p: &Parts, s: Short, i: u32) -> Option<u16>
 }
 
 impl<'h, H: Host> LoomMemory<'h, H> {
+    ghost use Rattle.loom_memory.specs.Effects.{Enters, Leaves, LeavesBeside, Peeks, Puts};
+    ghost use Rattle.object_memory.specs.Fit.{MayCall, StaysCallable};
+    ghost use Rattle.std.specs.Prelude.{Ok};
     ghost use Rattle.long_names.specs.State.{name_at};
     ghost use Rattle.purger.specs.Purge.{HasRoom};
     ghost use Rattle.loom_memory.specs.Residents.{fetched, is_resident};
@@ -52,38 +55,30 @@ impl<'h, H: Host> LoomMemory<'h, H> {
     ghost use Rattle.long_names.specs.declared.value.Value.TheVariants.{Ref};
     ghost use Rattle.object_memory.specs.Told.{IsReady};
     ghost use Rattle.object_memory.specs.Contract.{Accessed, KeepsSound, MayDo, makes};
-    ghost use Rattle.object_memory.specs.Fit.{MayCall, StaysCallable};
     ghost use Rattle.disk_objects.specs.Function.{disk_of};
     ghost use Rattle.loom_memory.specs.Known.{IsNameable};
     ghost use Rattle.loom_memory.specs.Below.{IsBelow};
     ghost use Rattle.loom_memory.specs.Damage.{IsDamageOf, IsDamaged};
     ghost use Rattle.loom_memory.specs.Freed.{IsFreedBy, IsFreedShort};
     ghost use Rattle.loom_memory.specs.Thinned.{StaysThinned};
-    ghost use Rattle.loom_memory.specs.Memory.{loom_told, loom_outside, loom_lender, word_in, loom_core, loom_now, loom_parts, loom_rest, IsSound, IsQuiet, IsSilent, IsTaken, IsRefused};
+    ghost use Rattle.loom_memory.specs.Memory.{loom_told, loom_outside, loom_lender, word_in, loom_core, loom_now, loom_parts, loom_rest, IsSound, IsSilent, IsTaken, IsRefused};
+    ghost use Rattle.loom_memory.specs.Gentle.{IsQuiet};
 
     // The long word that a lambda means. A name is below the next one.
     fn read_lambda(&mut self, s: Short, at: Addr, i: u32) -> Result<u32, MemFault>
-        requires sound { IsSound H.Host self.old }
-        requires ready { IsReady (loom_told H.Host self.old) }
+        requires fit { MayCall (IsSound H.Host) (loom_told H.Host) self.old }
         requires lambda { IsAt (loom_core self.old) s.0 at.place i 0 }
         requires spare { SPARE_BEHIND_CLASS ≤ spare_of (loom_parts self.old) }
-        ensures quiet { OnOk result (IsQuiet (loom_told H.Host self.old) (loom_told H.Host self.new)) }
-        ensures sound { KeepsSound result (IsSound H.Host self.new) }
+        ensures peeks { OnOk result (Peeks H.Host self.old self.new) }
+        ensures leaves { Leaves H.Host self.old self.new result }
         ensures long { IsTrue (H.tells Role.Work) → IfOk result (λ long. slice_get (fields_there (disk_of H.Host (loom_now self.old) (loom_rest self.old) ((loom_core self.old).entries s.0).name)) i ≡ Some (value_in long)) }
         ensures below { IfOk result (λ long. IsBelow self.new.ledger.next (value_in long)) }
         ensures named { OnOk result (((loom_core self.new).entries s.0).name ≡ ((loom_core self.old).entries s.0).name) }
         ensures spare { OnOk result (1 ≤ spare_of (loom_parts self.new)) }
-        ensures regs { OnOk result (self.new.regs ≡ self.old.regs) }
         ensures at { OnOk result ((w : ℕ) × IsAt (loom_core self.new) s.0 at.place i w) }
         ensures mark { OnOk result (((loom_core self.new).entries s.0).flags.marked ≡ ((loom_core self.old).entries s.0).flags.marked) }
         ensures damage { IfErr result (IsDamageOf (loom_rest self.new) ((loom_core self.old).entries s.0).name) }
         ensures err { IfErr result (λ f. (a : Access) → IsSilent a → makes a ≡ 0 → IsRefused (loom_told H.Host self.old) (loom_told H.Host self.new) a f) }
-        ensures peek { OnOk result (IsPeek H.Host self.old self.new) }
-        ensures brings { fetched self.new ≡ fetched self.old }
-        ensures due { OnOk result (self.new.due ≡ self.old.due) }
-        ensures flag { OnOk result (self.new.thinned ≡ self.old.thinned) }
-        ensures lender { loom_lender self.new ≡ loom_lender self.old }
-        ensures outside { loom_outside H.Host self.new ≡ loom_outside H.Host self.old }
     {
         let levels = &mut self.pager.levels;
         match read_copy(&levels.parts, &mut levels.disk, &mut self.buf, s, at) {
@@ -111,20 +106,13 @@ impl<'h, H: Host> LoomMemory<'h, H> {
         requires value { IsValue v.now }
         requires named { IsTrue (H.tells Role.Work) → (n : ℕ) → v.now ≡ Ref n → IsNameable (loom_told H.Host self.old).heap n }
         requires spare { 1 ≤ spare_of (loom_parts self.old) }
-        ensures told { loom_told H.Host self.new ≡ loom_told H.Host self.old }
-        ensures sound { IsSound H.Host self.new }
-        ensures regs { self.new.regs ≡ self.old.regs }
+        ensures enters { Enters H.Host self.old self.new }
+        ensures leaves { LeavesBeside H.Host self.old self.new (Ok result) }
         ensures entries { (q : ℕ) → is_used ((loom_core self.old).entries q).state ≡ true → (loom_core self.new).entries q ≡ (loom_core self.old).entries q }
         ensures chunks { (loom_core self.new).chunks ≡ (loom_core self.old).chunks }
         ensures used { is_short result ≡ true → is_used ((loom_core self.new).entries result).state ≡ true }
         ensures some { result ≢ 0 }
         ensures means { meant (loom_core self.new).entries [] 0 result ≡ v.now }
-        ensures ledger { self.new.ledger ≡ self.old.ledger }
-        ensures steady { IsSteady H.Host self.old self.new }
-        ensures due { self.new.due ≡ self.old.due }
-        ensures flag { self.new.thinned ≡ self.old.thinned }
-        ensures lender { loom_lender self.new ≡ loom_lender self.old }
-        ensures outside { loom_outside H.Host self.new ≡ loom_outside H.Host self.old }
     {
         match v.number() {
             Some(number) => short_int(number),
@@ -149,28 +137,20 @@ impl<'h, H: Host> LoomMemory<'h, H> {
         at: Addr,
         i: u32,
     ) -> Result<u16, MemFault>
-        requires sound { IsSound H.Host self.old }
-        requires ready { IsReady (loom_told H.Host self.old) }
+        requires fit { MayCall (IsSound H.Host) (loom_told H.Host) self.old }
         requires word { s.0 ≡ word_in self.old.regs of }
         requires lambda { IsAt (loom_core self.old) s.0 at.place i 0 }
         requires spare { SPARE_BEHIND_CLASS ≤ spare_of (loom_parts self.old) }
-        ensures quiet { OnOk result (IsQuiet (loom_told H.Host self.old) (loom_told H.Host self.new)) }
-        ensures sound { KeepsSound result (IsSound H.Host self.new) }
+        ensures peeks { OnOk result (Peeks H.Host self.old self.new) }
+        ensures leaves { Leaves H.Host self.old self.new result }
         ensures used { IfOk result (λ w. is_short w ≡ true → is_used ((loom_core self.new).entries w).state ≡ true) }
         ensures some { IfOk result (λ w. w ≢ 0) }
         ensures means { IsTrue (H.tells Role.Work) → IfOk result (λ w. brought (loom_told H.Host self.old).heap (loom_told H.Host self.old).regs (Field 0 of i) ≡ Some (meant (loom_core self.new).entries [] 0 w)) }
         ensures below { IfOk result (λ w. IsBelow self.new.ledger.next (meant (loom_core self.new).entries [] 0 w)) }
-        ensures regs { OnOk result (self.new.regs ≡ self.old.regs) }
         ensures at { OnOk result ((w : ℕ) × IsAt (loom_core self.new) s.0 at.place i w) }
         ensures mark { OnOk result (((loom_core self.new).entries s.0).flags.marked ≡ ((loom_core self.old).entries s.0).flags.marked) }
         ensures damage { IfErr result (IsDamageOf (loom_rest self.new) ((loom_core self.old).entries s.0).name) }
         ensures err { IfErr result (λ f. (a : Access) → IsSilent a → makes a ≡ 0 → IsRefused (loom_told H.Host self.old) (loom_told H.Host self.new) a f) }
-        ensures peek { OnOk result (IsPeek H.Host self.old self.new) }
-        ensures brings { fetched self.new ≡ fetched self.old }
-        ensures due { OnOk result (self.new.due ≡ self.old.due) }
-        ensures flag { OnOk result (self.new.thinned ≡ self.old.thinned) }
-        ensures lender { loom_lender self.new ≡ loom_lender self.old }
-        ensures outside { loom_outside H.Host self.new ≡ loom_outside H.Host self.old }
     {
         match self.read_lambda(s, at, i) {
             Ok(long) => match value_of(long) {
@@ -183,21 +163,17 @@ impl<'h, H: Host> LoomMemory<'h, H> {
 
     // Puts what a lambda means into a register.
     fn take_lambda(&mut self, to: Reg, of: Reg, s: Short, at: Addr, i: u32) -> Result<(), MemFault>
-        requires sound { IsSound H.Host self.old }
-        requires ready { IsReady (loom_told H.Host self.old) }
+        requires fit { MayCall (IsSound H.Host) (loom_told H.Host) self.old }
         requires word { s.0 ≡ word_in self.old.regs of }
         requires lambda { IsAt (loom_core self.old) s.0 at.place i 0 }
         requires spare { SPARE_BEHIND_CLASS ≤ spare_of (loom_parts self.old) }
         ensures taken { OnOk result (IsTaken (loom_told H.Host self.old) (loom_told H.Host self.new) to of i) }
-        ensures sound { KeepsSound result (IsSound H.Host self.new) }
+        ensures leaves { Leaves H.Host self.old self.new result }
         ensures damage { IfErr result (IsDamageOf (loom_rest self.new) ((loom_core self.old).entries s.0).name) }
         ensures err { IfErr result (IsRefused (loom_told H.Host self.old) (loom_told H.Host self.new) (Field to of i)) }
         ensures peek { OnOk result (IsPeek H.Host self.old self.new) }
-        ensures brings { fetched self.new ≡ fetched self.old }
         ensures due { OnOk result (self.new.due ≡ self.old.due) }
         ensures stays { OnOk result (StaysThinned self.old self.new (word_in self.old.regs to)) }
-        ensures lender { loom_lender self.new ≡ loom_lender self.old }
-        ensures outside { loom_outside H.Host self.new ≡ loom_outside H.Host self.old }
     {
         match self.lambda_word(of, s, at, i) {
             Ok(w) => {
@@ -210,22 +186,18 @@ impl<'h, H: Host> LoomMemory<'h, H> {
 
     // Puts field i of an object in the core into a register.
     fn take_field(&mut self, to: Reg, of: Reg, s: Short, i: u32) -> Result<(), MemFault>
-        requires sound { IsSound H.Host self.old }
-        requires ready { IsReady (loom_told H.Host self.old) }
+        requires fit { MayCall (IsSound H.Host) (loom_told H.Host) self.old }
         requires may { IsTrue (H.tells Role.Work) → CanDo (loom_told H.Host self.old).heap (loom_told H.Host self.old).regs (Field to of i) }
         requires word { s.0 ≡ word_in self.old.regs of }
         requires there { (at : ℕ) × (place_of ((loom_core self.old).entries s.0).state ≡ Some at) }
         requires spare { SPARE_BEHIND_CLASS ≤ spare_of (loom_parts self.old) }
         ensures taken { OnOk result (IsTaken (loom_told H.Host self.old) (loom_told H.Host self.new) to of i) }
-        ensures sound { KeepsSound result (IsSound H.Host self.new) }
+        ensures leaves { Leaves H.Host self.old self.new result }
         ensures damage { IfErr result (IsDamageOf (loom_rest self.new) ((loom_core self.old).entries s.0).name) }
         ensures err { IfErr result (IsRefused (loom_told H.Host self.old) (loom_told H.Host self.new) (Field to of i)) }
         ensures peek { OnOk result (IsPeek H.Host self.old self.new) }
-        ensures brings { fetched self.new ≡ fetched self.old }
         ensures due { OnOk result (self.new.due ≡ self.old.due) }
         ensures stays { OnOk result (StaysThinned self.old self.new (word_in self.old.regs to)) }
-        ensures lender { loom_lender self.new ≡ loom_lender self.old }
-        ensures outside { loom_outside H.Host self.new ≡ loom_outside H.Host self.old }
     {
         let at = place_of_body(&self.pager.levels.parts, s);
         if i >= field_total(&self.pager.levels.parts, s, at) {

@@ -25,6 +25,9 @@ fn is_together(g: &Segment, words: u32) -> bool
 }
 
 impl<'h, H: Host> LoomMemory<'h, H> {
+    ghost use Rattle.loom_memory.specs.Effects.{IsHere, Leaves, LeavesBeside, Pages};
+    ghost use Rattle.object_memory.specs.Fit.{MayCall};
+    ghost use Rattle.std.specs.Prelude.{Ok};
     ghost use Rattle.long_names.specs.Access.{Access, target_of};
     ghost use Rattle.long_names.specs.State.{name_at, IsRef};
     ghost use Rattle.object_memory.specs.Told.{IsReady};
@@ -38,30 +41,20 @@ impl<'h, H: Host> LoomMemory<'h, H> {
     ghost use Rattle.loom_memory.specs.Makings.{HasThinned};
     ghost use Rattle.loom_memory.specs.Damage.{IsDamaged};
     ghost use Rattle.loom_memory.specs.Own.{BringsOne, IsSparing, MindsCache};
-    ghost use Rattle.loom_memory.specs.Memory.{loom_told, loom_outside, word_in, loom_core, loom_lender, loom_parts, loom_pins, IsSound, IsQuiet, IsCalm, IsSilent};
+    ghost use Rattle.loom_memory.specs.Memory.{loom_told, loom_outside, word_in, loom_core, loom_lender, loom_parts, loom_pins, IsSound, IsSilent};
+    ghost use Rattle.loom_memory.specs.Gentle.{IsQuiet, IsCalm};
 
     // Moves bodies together where so many words are free, but not as one chunk.
     #[inline(always)]
     pub(crate) fn gather(&mut self, words: u32)
         requires sound { IsSound H.Host self.old }
         requires room { HasRoom (loom_parts self.old) words SPARE }
-        ensures quiet { IsQuiet (loom_told H.Host self.old) (loom_told H.Host self.new) }
-        ensures sound { IsSound H.Host self.new }
-        ensures calm { IsCalm (loom_pins self.old) (loom_core self.old) (loom_core self.new) }
-        ensures leaves { (t : ℕ) → place_of ((loom_core self.old).entries t).state ≡ None → place_of ((loom_core self.new).entries t).state ≡ None }
-        ensures regs { self.new.regs ≡ self.old.regs }
-        ensures pins { loom_pins self.new ≡ loom_pins self.old }
-        ensures ledger { self.new.ledger ≡ self.old.ledger }
+        ensures pages { Pages H.Host self.old self.new }
+        ensures leaves { Leaves H.Host self.old self.new (Ok result) }
         ensures room { (words ≤ largest_of (loom_parts self.new).segment) × (SPARE ≤ spare_of (loom_parts self.new)) }
         ensures gentle { IsGentle H.Host self.old self.new }
-        ensures minds { MindsCache H.Host None self.old self.new (λ k. ⊥) }
         ensures idle { words ≡ 0 → self.new ≡ self.old }
         ensures buf { self.new.buf ≡ self.old.buf }
-        ensures brings { fetched self.new ≡ fetched self.old }
-        ensures due { self.new.due ≡ self.old.due }
-        ensures flag { self.new.thinned ≡ self.old.thinned }
-        ensures lender { loom_lender self.new ≡ loom_lender self.old }
-        ensures outside { loom_outside H.Host self.new ≡ loom_outside H.Host self.old }
     {
         if is_together(&self.pager.levels.parts.segment, words) {
             return;
@@ -74,11 +67,7 @@ impl<'h, H: Host> LoomMemory<'h, H> {
     pub(crate) fn here(&self, of: Reg) -> Option<Short>
         requires sound { IsSound H.Host self.now }
         requires name { IsRef ((loom_told H.Host self.now).regs of) }
-        ensures word { IfSome result (λ s. s.0 ≡ word_in self.now.regs of) }
-        ensures loaded { IfSome result (λ s. IsLoaded H.Host self.now of s.0) }
-        ensures core { IfSome result (λ s. (a : Access) → target_of a ≡ Some of → makes a ≡ 0 → IfBounds (loom_told H.Host self.now).bounds (HasCore (loom_told H.Host self.now) a)) }
-        ensures bounded { IfSome result (λ s. ForBounds (loom_told H.Host self.now).bounds (λ b. words_resident self.now ≤ b.core)) }
-        ensures there { IfSome result (λ s. IsTrue (is_resident self.now (name_at ((loom_told H.Host self.now).regs of)))) }
+        ensures here { IfSome result (λ s. IsHere H.Host (loom_told H.Host self.now) self.now of s.0) }
         ensures away { IfNone result (is_resident self.now (name_at ((loom_told H.Host self.now).regs of)) ≡ false) }
         ensures leaf { IfNone result (place_of ((loom_core self.now).entries (word_in self.now.regs of)).state ≡ None) }
     {
@@ -95,14 +84,11 @@ impl<'h, H: Host> LoomMemory<'h, H> {
     // The object of a register is in the core, or is brought there from its record, in which each name is below the next one.
     #[inline(always)]
     pub(crate) fn load(&mut self, of: Reg) -> Result<Short, MemFault>
-        requires sound { IsSound H.Host self.old }
-        requires ready { IsReady (loom_told H.Host self.old) }
+        requires fit { MayCall (IsSound H.Host) (loom_told H.Host) self.old }
         requires name { IsRef ((loom_told H.Host self.old).regs of) }
         ensures thinned { OnOk result (HasThinned (loom_told H.Host self.old) (loom_told H.Host self.new)) }
-        ensures sound { KeepsSound result (IsSound H.Host self.new) }
-        ensures word { IfOk result (λ s. s.0 ≡ word_in self.new.regs of) }
-        ensures loaded { IfOk result (λ s. IsLoaded H.Host self.new of s.0) }
-        ensures core { OnOk result ((a : Access) → target_of a ≡ Some of → makes a ≡ 0 → IfBounds (loom_told H.Host self.old).bounds (HasCore (loom_told H.Host self.old) a)) }
+        ensures leaves { LeavesBeside H.Host self.old self.new result }
+        ensures here { IfOk result (λ s. IsHere H.Host (loom_told H.Host self.old) self.new of s.0) }
         ensures gone { OnOk result (IsFreedFor H.Host self.old self.new (name_at ((loom_told H.Host self.old).regs of))) }
         ensures idle { IsTrue (is_resident self.old (name_at ((loom_told H.Host self.old).regs of))) → self.new ≡ self.old }
         ensures own { IsSparing H.Host self.old self.new (name_at ((loom_told H.Host self.old).regs of)) result }
@@ -112,8 +98,6 @@ impl<'h, H: Host> LoomMemory<'h, H> {
         ensures brings { BringsOne self.old self.new (is_resident self.old (name_at ((loom_told H.Host self.old).regs of)) ≡ false) }
         ensures regs { OnOk result (self.new.regs ≡ self.old.regs) }
         ensures pins { OnOk result (loom_pins self.new ≡ loom_pins self.old) }
-        ensures lender { loom_lender self.new ≡ loom_lender self.old }
-        ensures outside { loom_outside H.Host self.new ≡ loom_outside H.Host self.old }
     {
         match self.here(of) {
             Some(s) => Ok(s),

@@ -15,6 +15,8 @@ use object_table::Short;
 use object_table::laws::entries_are_counted;
 
 impl<'h, H: Host> LoomMemory<'h, H> {
+    ghost use Rattle.loom_memory.specs.Effects.{Enters, Leaves, LeavesRefused};
+    ghost use Rattle.object_memory.specs.Fit.{MayCall, StaysCallable};
     ghost use Rattle.long_names.specs.Names.{SMALL_INTEGER};
     ghost use Rattle.long_names.specs.Heap.{Has};
     ghost use Rattle.long_names.specs.State.{name_at, IsRef};
@@ -23,8 +25,8 @@ impl<'h, H: Host> LoomMemory<'h, H> {
     ghost use Rattle.long_names.specs.declared.value.Value.TheVariants.{Ref};
     ghost use Rattle.object_memory.specs.Told.{IsReady};
     ghost use Rattle.object_memory.specs.Contract.{Accessed, KeepsSound, LeavesAll, MayDo};
-    ghost use Rattle.object_memory.specs.Fit.{MayCall, StaysCallable};
-    ghost use Rattle.loom_memory.specs.Memory.{loom_told, loom_outside, loom_lender, word_in, loom_core, loom_parts, loom_pins, IsSound, IsQuiet};
+    ghost use Rattle.loom_memory.specs.Memory.{loom_told, loom_outside, loom_lender, word_in, loom_core, loom_parts, loom_pins, IsSound};
+    ghost use Rattle.loom_memory.specs.Gentle.{IsQuiet};
     ghost use Rattle.purger.specs.Purge.{HasRoom};
     ghost use Rattle.loom_memory.specs.Gentle.{IsSteady};
     ghost use Rattle.loom_memory.specs.Own.{BringsOne, IsSparing, MindsCache};
@@ -39,19 +41,11 @@ impl<'h, H: Host> LoomMemory<'h, H> {
     fn entry_for(&mut self, name: Name) -> Option<Short>
         requires sound { IsSound H.Host self.old }
         requires named { IsTrue (H.tells Role.Work) → IsNameable (loom_told H.Host self.old).heap name }
-        ensures told { loom_told H.Host self.new ≡ loom_told H.Host self.old }
-        ensures sound { IsSound H.Host self.new }
+        ensures enters { Enters H.Host self.old self.new }
+        ensures leaves { Leaves H.Host self.old self.new (Ok result) }
         ensures found { IfSome result (λ s. IsEntryOf (loom_core self.new) s.0 name) }
         ensures none { IfNone result (IsSpent (loom_core self.old) (spare_of (loom_parts self.old)) name) }
         ensures same { IfNone result (((loom_core self.new) ≡ (loom_core self.old)) × (spare_of (loom_parts self.new) ≤ spare_of (loom_parts self.old))) }
-        ensures pins { loom_pins self.new ≡ loom_pins self.old }
-        ensures steady { IsSteady H.Host self.old self.new }
-        ensures brings { fetched self.new ≡ fetched self.old }
-        ensures due { self.new.due ≡ self.old.due }
-        ensures flag { self.new.thinned ≡ self.old.thinned }
-        ensures regs { self.new.regs ≡ self.old.regs }
-        ensures lender { loom_lender self.new ≡ loom_lender self.old }
-        ensures outside { loom_outside H.Host self.new ≡ loom_outside H.Host self.old }
     {
         let levels = &mut self.pager.levels;
         find_or_leaf(&mut levels.parts, name, 0)
@@ -82,16 +76,12 @@ impl<'h, H: Host> LoomMemory<'h, H> {
 
     // Refuses: a name has no entry, and nothing more can go. Its record tells how many words its object takes.
     fn lack(&mut self, name: Name) -> MemFault
-        requires sound { IsSound H.Host self.old }
-        requires ready { IsReady (loom_told H.Host self.old) }
+        requires fit { MayCall (IsSound H.Host) (loom_told H.Host) self.old }
         requires has { IsTrue (H.tells Role.Work) → Has (loom_told H.Host self.old).heap name }
         requires spent { IsSpent (loom_core self.old) (spare_of (loom_parts self.old)) name }
         requires bare { IsBare (loom_pins self.old).a (loom_pins self.old).b (loom_pins self.old).d (loom_core self.old) }
-        ensures sound { LeavesAll result (IsSound H.Host self.new) }
+        ensures leaves { LeavesRefused H.Host self.old self.new result }
         ensures err { IsRefusedOf (loom_told H.Host self.old) (loom_told H.Host self.new) name result }
-        ensures brings { fetched self.new ≡ fetched self.old }
-        ensures lender { loom_lender self.new ≡ loom_lender self.old }
-        ensures outside { loom_outside H.Host self.new ≡ loom_outside H.Host self.old }
     {
         entries_are_counted(&self.pager.levels.parts.names.table);
         match self.look_up(name) {
@@ -107,20 +97,16 @@ impl<'h, H: Host> LoomMemory<'h, H> {
     #[cold]
     #[inline(never)]
     fn free_entry(&mut self, name: Name) -> Result<Short, MemFault>
-        requires sound { IsSound H.Host self.old }
-        requires ready { IsReady (loom_told H.Host self.old) }
+        requires fit { MayCall (IsSound H.Host) (loom_told H.Host) self.old }
         requires named { IsTrue (H.tells Role.Work) → IsNameable (loom_told H.Host self.old).heap name }
         ensures quiet { OnOk result (IsQuiet (loom_told H.Host self.old) (loom_told H.Host self.new)) }
-        ensures sound { KeepsSound result (IsSound H.Host self.new) }
+        ensures leaves { Leaves H.Host self.old self.new result }
         ensures found { IfOk result (λ s. IsEntryOf (loom_core self.new) s.0 name) }
         ensures minds { OnOk result (MindsCache H.Host None self.old self.new (λ k. ⊥)) }
         ensures err { IfErr result (IsRefusedOf (loom_told H.Host self.old) (loom_told H.Host self.new) name) }
-        ensures brings { fetched self.new ≡ fetched self.old }
         ensures due { OnOk result (self.new.due ≡ self.old.due) }
         ensures flag { OnOk result (self.new.thinned ≡ self.old.thinned) }
         ensures regs { OnOk result (self.new.regs ≡ self.old.regs) }
-        ensures lender { loom_lender self.new ≡ loom_lender self.old }
-        ensures outside { loom_outside H.Host self.new ≡ loom_outside H.Host self.old }
     {
         match self.clear(0) {
             Ok(enough) => match self.entry_for(name) {
@@ -134,22 +120,18 @@ impl<'h, H: Host> LoomMemory<'h, H> {
     // The entry of a name whose object is held, or a refusal.
     #[inline(always)]
     fn entry_of(&mut self, name: Name) -> Result<Short, MemFault>
-        requires sound { IsSound H.Host self.old }
-        requires ready { IsReady (loom_told H.Host self.old) }
+        requires fit { MayCall (IsSound H.Host) (loom_told H.Host) self.old }
         requires named { IsTrue (H.tells Role.Work) → IsNameable (loom_told H.Host self.old).heap name }
         ensures quiet { OnOk result (IsQuiet (loom_told H.Host self.old) (loom_told H.Host self.new)) }
-        ensures sound { KeepsSound result (IsSound H.Host self.new) }
+        ensures leaves { Leaves H.Host self.old self.new result }
         ensures found { IfOk result (λ s. IsEntryOf (loom_core self.new) s.0 name) }
         ensures minds { OnOk result (MindsCache H.Host None self.old self.new (λ k. ⊥)) }
         ensures err { IfErr result (IsRefusedOf (loom_told H.Host self.old) (loom_told H.Host self.new) name) }
         ensures steady { OnOk result (HasRoom (loom_parts self.old) 0 SPARE → IsSteady H.Host self.old self.new) }
         ensures unspent { OnOk result ((IsSpent (loom_core self.old) (spare_of (loom_parts self.old)) name → ⊥) → IsSteady H.Host self.old self.new) }
-        ensures brings { fetched self.new ≡ fetched self.old }
         ensures due { OnOk result (self.new.due ≡ self.old.due) }
         ensures flag { OnOk result (self.new.thinned ≡ self.old.thinned) }
         ensures regs { OnOk result (self.new.regs ≡ self.old.regs) }
-        ensures lender { loom_lender self.new ≡ loom_lender self.old }
-        ensures outside { loom_outside H.Host self.new ≡ loom_outside H.Host self.old }
     {
         match self.entry_for(name) {
             Some(s) => Ok(s),
@@ -160,20 +142,16 @@ impl<'h, H: Host> LoomMemory<'h, H> {
     // A name whose object is held comes into a register.
     #[inline(always)]
     fn put_name(&mut self, to: Reg, name: Name) -> Result<(), MemFault>
-        requires sound { IsSound H.Host self.old }
-        requires ready { IsReady (loom_told H.Host self.old) }
+        requires fit { MayCall (IsSound H.Host) (loom_told H.Host) self.old }
         requires named { IsTrue (H.tells Role.Work) → IsNameable (loom_told H.Host self.old).heap name }
         ensures naming { OnOk result (IsNaming (loom_told H.Host self.old) (loom_told H.Host self.new) to name) }
         ensures minds { OnOk result (MindsCache H.Host None self.old self.new (λ k. ⊥)) }
-        ensures sound { KeepsSound result (IsSound H.Host self.new) }
+        ensures leaves { Leaves H.Host self.old self.new result }
         ensures err { IfErr result (IsRefusedOf (loom_told H.Host self.old) (loom_told H.Host self.new) name) }
         ensures steady { OnOk result (HasRoom (loom_parts self.old) 0 SPARE → IsSteady H.Host self.old self.new) }
         ensures unspent { OnOk result ((IsSpent (loom_core self.old) (spare_of (loom_parts self.old)) name → ⊥) → IsSteady H.Host self.old self.new) }
-        ensures brings { fetched self.new ≡ fetched self.old }
         ensures due { OnOk result (self.new.due ≡ self.old.due) }
         ensures stays { OnOk result (StaysThinned self.old self.new (word_in self.old.regs to)) }
-        ensures lender { loom_lender self.new ≡ loom_lender self.old }
-        ensures outside { loom_outside H.Host self.new ≡ loom_outside H.Host self.old }
     {
         match self.entry_of(name) {
             Ok(s) => {

@@ -6,6 +6,7 @@ use crate::memory::LoomMemory;
 use loom_host::{Failed, Host, Role};
 
 impl<'h, H: Host> LoomMemory<'h, H> {
+    ghost use Rattle.loom_memory.specs.Effects.{Puts};
     ghost use Rattle.loom_memory.specs.Memory.{loom_told, loom_outside, loom_lender, IsSound};
     ghost use Rattle.loom_memory.specs.Lent.{faults_of, IsAside, IsLent};
 

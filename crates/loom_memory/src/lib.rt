@@ -3,7 +3,7 @@
 //! `CoreTables::new` takes the memory for that before, and `joined` takes none then. `wind_up` with `into_disk` ends it: the disk has just the
 //! objects that are kept then, with their exact counts.
 //!
-//! A making (`makings`) asks for a name first, then for room on the disk, then for room in the core. Where the disk is full and eight or more
+//! A making (`making`) asks for a name first, then for room on the disk, then for room in the core. Where the disk is full and eight or more
 //! were made since the last settling, dead objects are freed before it is refused (`thin`, by `Pager::drain`). `settle` frees them where
 //! there is no room for eight more, so that a making before the eighth frees nothing for the disk's sake (`specs/Numbers.antt`). Where the
 //! core is short, what is dead is freed before anything living leaves (`free_first`): by a making, by `settle`, and by an access that brings an
@@ -18,7 +18,8 @@
 //! may be gone, counts of faults, and that all marks may be gone (`HasThinned`; `IsQuiet`, where none was freed). No access reaches a dead
 //! object, so it does of the heap before what it does of the one that is left (`accessed-freed`).
 //!
-//! What is promised of the core and of Work beside what is told stands in `specs/Own.antt`, a record for each shape of call (`IsSparing` of
+//! What a call within the crate leaves stands in `specs/Effects.antt`: a record for whatever it answers, and one for what it may touch. What is promised
+//! of the core and of Work beside what is told stands in `specs/Own.antt`, a record for each shape of call (`IsSparing` of
 //! one that changes nothing): which object is in the core, that none leaves it without need, that Work isn't touched without need, what
 //! comes in, and that cached rows stay.
 //!
@@ -36,10 +37,7 @@
 pub mod beginning;
 pub mod below;
 mod bodies;
-pub mod bring;
 pub mod cache;
-pub mod ending;
-pub mod ends;
 pub mod fields;
 pub mod first;
 pub mod here;
@@ -49,10 +47,12 @@ pub mod laws;
 pub mod ledger;
 pub mod lent;
 pub mod load;
-mod making;
-pub mod makings;
+pub mod making;
 pub mod memory;
+mod new_object;
+pub mod purging;
 pub mod reads;
+pub mod refusals;
 pub mod registers;
 pub mod residents;
 pub mod says;
@@ -61,6 +61,7 @@ pub mod slots;
 pub mod stores;
 pub mod swap;
 pub mod thinned;
+pub mod winding_up;
 
 pub use beginning::CoreTables;
 pub use memory::LoomMemory;

@@ -15,8 +15,8 @@ ghost use Rattle.core_view.specs.Room.{over_three, room_for, entries_for};
 ghost use Rattle.loom_memory.specs.declared.load.TheConstants.{SPARE_BEHIND_CLASS, SPARE_ENTRIES as SPARE};
 
 use crate::below::holds_below;
-use crate::bring::refusal_of;
 use crate::memory::LoomMemory;
+use crate::refusals::refusal_of;
 use core_segment::Addr;
 use core_segment::laws::chunks_never_overlap;
 use leaf_lambda::bodies::words_of;
@@ -107,6 +107,9 @@ pub(crate) fn unless(skip: bool, n: u32) -> u32
 }
 
 impl<'h, H: Host> LoomMemory<'h, H> {
+    ghost use Rattle.loom_memory.specs.Effects.{Comes, Gains, IsFaulted, IsHere, Leaves, LeavesBeside, LeavesRefused, MayThin, Pages, Reads};
+    ghost use Rattle.object_memory.specs.Fit.{MayCall};
+    ghost use Rattle.std.specs.Prelude.{Ok};
     ghost use Rattle.long_names.specs.Heap.{Has};
     ghost use Rattle.long_names.specs.Access.{Access, target_of};
     ghost use Rattle.object_memory.specs.Told.{IsReady};
@@ -129,7 +132,8 @@ impl<'h, H: Host> LoomMemory<'h, H> {
     ghost use Rattle.loom_memory.specs.Below.{IsTested};
     ghost use Rattle.loom_memory.specs.Own.{BringsOne, IsBrought, MindsCache};
     ghost use Rattle.loom_memory.specs.Damage.{IsDamageOf, IsDamaged};
-    ghost use Rattle.loom_memory.specs.Memory.{loom_told, loom_outside, word_in, words_in_row, loom_core, loom_lender, loom_now, loom_parts, loom_pins, loom_rest, IsNeed, IsRead, IsSized, IsSound, IsQuiet, IsCalm, IsSilent, IsRefused, IsRefusedAt};
+    ghost use Rattle.loom_memory.specs.Memory.{loom_told, loom_outside, word_in, words_in_row, loom_core, loom_lender, loom_now, loom_parts, loom_pins, loom_rest, IsNeed, IsRead, IsSized, IsSound, IsSilent, IsRefused, IsRefusedAt};
+    ghost use Rattle.loom_memory.specs.Gentle.{IsQuiet, IsCalm};
 
     // The object of a leaf comes in from its record in the buffer. Its words have room in one chunk.
     fn come(&mut self, s: Short)
@@ -139,21 +143,13 @@ impl<'h, H: Host> LoomMemory<'h, H> {
         requires there { IsTrue (H.tells Role.Work) → disk_of H.Host (loom_now self.old) (loom_rest self.old) ((loom_core self.old).entries s.0).name ≡ Some (object_in (raw_of self.old.buf)) }
         requires room { 4 + body_words (object_in (raw_of self.old.buf)).body ≤ largest_of (loom_parts self.old).segment }
         requires spare { SPARE ≤ spare_of (loom_parts self.old) }
-        ensures quiet { IsQuiet (loom_told H.Host self.old) (loom_told H.Host self.new) }
-        ensures sound { IsSound H.Host self.new }
-        ensures regs { self.new.regs ≡ self.old.regs }
+        ensures gains { Gains H.Host self.old self.new }
+        ensures minds { MindsCache H.Host None self.old self.new (λ k. k ≡ ((loom_core self.old).entries s.0).name) }
+        ensures leaves { LeavesBeside H.Host self.old self.new (Ok result) }
         ensures there { (at : ℕ) × (place_of ((loom_core self.new).entries s.0).state ≡ Some at) }
         ensures spare { SPARE_BEHIND_CLASS ≤ spare_of (loom_parts self.new) }
         ensures counted { fetched self.new ≡ counted (fetched self.old) }
         ensures buf { self.new.buf ≡ self.old.buf }
-        ensures next { self.new.ledger.next ≡ self.old.ledger.next }
-        ensures gentle { IsGentle H.Host self.old self.new }
-        ensures minds { MindsCache H.Host None self.old self.new (λ k. k ≡ ((loom_core self.old).entries s.0).name) }
-        ensures due { self.new.due ≡ self.old.due }
-        ensures flag { self.new.thinned ≡ self.old.thinned }
-        ensures pins { loom_pins self.new ≡ loom_pins self.old }
-        ensures lender { loom_lender self.new ≡ loom_lender self.old }
-        ensures outside { loom_outside H.Host self.new ≡ loom_outside H.Host self.old }
     {
         let levels = &mut self.pager.levels;
         translate_in(&mut levels.parts, s, &mut self.buf);
@@ -162,28 +158,17 @@ impl<'h, H: Host> LoomMemory<'h, H> {
 
     // The words that the object of a name takes, from its record, which stays in the buffer. Each name in it is below the next one.
     pub(crate) fn look_up(&mut self, name: Name) -> Result<u32, MemFault>
-        requires sound { IsSound H.Host self.old }
-        requires ready { IsReady (loom_told H.Host self.old) }
+        requires fit { MayCall (IsSound H.Host) (loom_told H.Host) self.old }
         requires there { IsTrue (H.tells Role.Work) → disk_of H.Host (loom_now self.old) (loom_rest self.old) name ≡ None → ⊥ }
         requires own { IsTrue (H.tells Role.Work) → (loom_told H.Host self.old).heap.at name ≡ disk_of H.Host (loom_now self.old) (loom_rest self.old) name }
-        ensures quiet { OnOk result (IsQuiet (loom_told H.Host self.old) (loom_told H.Host self.new)) }
-        ensures sound { KeepsSound result (IsSound H.Host self.new) }
-        ensures parts { OnOk result (loom_parts self.new ≡ loom_parts self.old) }
-        ensures regs { OnOk result (self.new.regs ≡ self.old.regs) }
-        ensures pins { OnOk result (loom_pins self.new ≡ loom_pins self.old) }
+        ensures reads { OnOk result (Reads H.Host self.old self.new) }
+        ensures leaves { Leaves H.Host self.old self.new result }
         ensures record { IfOk result (λ words. IsRead (H.tells Role.Work) self.new.buf (disk_of H.Host (loom_now self.new) (loom_rest self.new)) name words) }
         ensures tested { OnOk result (IsTested self.new name) }
         ensures sized { IfOk result (λ words. IsSized (H.tells Role.Work) (disk_of H.Host (loom_now self.new) (loom_rest self.new) name) words) }
         ensures small { IfOk result (λ words. words < 2 ^ 18) }
-        ensures ledger { OnOk result (self.new.ledger ≡ self.old.ledger) }
-        ensures due { OnOk result (self.new.due ≡ self.old.due) }
-        ensures gentle { OnOk result (IsGentle H.Host self.old self.new) }
         ensures damage { IfErr result (IsDamageOf (loom_rest self.new) name) }
         ensures err { IfErr result (λ f. (a : Access) → IsSilent a → makes a ≡ 0 → IsRefused (loom_told H.Host self.old) (loom_told H.Host self.new) a f) }
-        ensures brings { fetched self.new ≡ fetched self.old }
-        ensures flag { OnOk result (self.new.thinned ≡ self.old.thinned) }
-        ensures lender { loom_lender self.new ≡ loom_lender self.old }
-        ensures outside { loom_outside H.Host self.new ≡ loom_outside H.Host self.old }
     {
         let levels = &mut self.pager.levels;
         match fetch(&mut levels.disk, name, &mut self.buf) {
@@ -205,72 +190,40 @@ impl<'h, H: Host> LoomMemory<'h, H> {
 
     // The same of the object of a leaf.
     fn look(&mut self, s: Short) -> Result<u32, MemFault>
-        requires sound { IsSound H.Host self.old }
-        requires ready { IsReady (loom_told H.Host self.old) }
+        requires fit { MayCall (IsSound H.Host) (loom_told H.Host) self.old }
         requires leaf { (is_used ((loom_core self.old).entries s.0).state ≡ true) × (place_of ((loom_core self.old).entries s.0).state ≡ None) }
         requires has { IsTrue (H.tells Role.Work) → Has (loom_told H.Host self.old).heap ((loom_core self.old).entries s.0).name }
-        ensures quiet { OnOk result (IsQuiet (loom_told H.Host self.old) (loom_told H.Host self.new)) }
-        ensures sound { KeepsSound result (IsSound H.Host self.new) }
-        ensures parts { OnOk result (loom_parts self.new ≡ loom_parts self.old) }
-        ensures regs { OnOk result (self.new.regs ≡ self.old.regs) }
-        ensures pins { OnOk result (loom_pins self.new ≡ loom_pins self.old) }
+        ensures reads { OnOk result (Reads H.Host self.old self.new) }
+        ensures leaves { Leaves H.Host self.old self.new result }
         ensures record { IfOk result (λ words. IsRead (H.tells Role.Work) self.new.buf (disk_of H.Host (loom_now self.new) (loom_rest self.new)) ((loom_core self.new).entries s.0).name words) }
         ensures tested { OnOk result (IsTested self.new ((loom_core self.old).entries s.0).name) }
         ensures sized { IfOk result (λ words. IsSized (H.tells Role.Work) (disk_of H.Host (loom_now self.new) (loom_rest self.new) ((loom_core self.new).entries s.0).name) words) }
         ensures small { IfOk result (λ words. words < 2 ^ 18) }
-        ensures ledger { OnOk result (self.new.ledger ≡ self.old.ledger) }
-        ensures due { OnOk result (self.new.due ≡ self.old.due) }
-        ensures gentle { OnOk result (IsGentle H.Host self.old self.new) }
         ensures damage { IfErr result (IsDamageOf (loom_rest self.new) ((loom_core self.old).entries s.0).name) }
         ensures err { IfErr result (λ f. (a : Access) → IsSilent a → makes a ≡ 0 → IsRefused (loom_told H.Host self.old) (loom_told H.Host self.new) a f) }
-        ensures brings { fetched self.new ≡ fetched self.old }
-        ensures flag { OnOk result (self.new.thinned ≡ self.old.thinned) }
-        ensures lender { loom_lender self.new ≡ loom_lender self.old }
-        ensures outside { loom_outside H.Host self.new ≡ loom_outside H.Host self.old }
     {
         let name = self.pager.levels.parts.names.table.used_entry(s).name;
         self.look_up(name)
     }
 
-    // `room`, whose want is no refusal. The buffer keeps its record.
+    // Room for so many words and as many entries as a call asks for. Where there is, bodies are moved together. The buffer keeps its record.
     pub(crate) fn clear(&mut self, words: u32) -> Result<bool, MemFault>
-        requires sound { IsSound H.Host self.old }
-        requires ready { IsReady (loom_told H.Host self.old) }
-        ensures quiet { OnOk result (IsQuiet (loom_told H.Host self.old) (loom_told H.Host self.new)) }
-        ensures sound { KeepsSound result (IsSound H.Host self.new) }
-        ensures calm { OnOk result (IsCalm (loom_pins self.old) (loom_core self.old) (loom_core self.new)) }
-        ensures leaves { OnOk result ((t : ℕ) → place_of ((loom_core self.old).entries t).state ≡ None → place_of ((loom_core self.new).entries t).state ≡ None) }
-        ensures regs { OnOk result (self.new.regs ≡ self.old.regs) }
-        ensures pins { OnOk result (loom_pins self.new ≡ loom_pins self.old) }
+        requires fit { MayCall (IsSound H.Host) (loom_told H.Host) self.old }
+        ensures pages { OnOk result (Pages H.Host self.old self.new) }
+        ensures leaves { Leaves H.Host self.old self.new result }
         ensures room { IfOk result (λ enough. IsTrue enough → (words ≤ largest_of (loom_parts self.new).segment) × (SPARE ≤ spare_of (loom_parts self.new))) }
         ensures short { IfOk result (λ enough. enough ≡ false → IsShort (loom_parts self.new) (loom_pins self.new).a (loom_pins self.new).b (loom_pins self.new).d words SPARE) }
-        ensures ledger { OnOk result (self.new.ledger ≡ self.old.ledger) }
         ensures gentle { OnOk result (HasRoom (loom_parts self.old) words SPARE → IsGentle H.Host self.old self.new) }
-        ensures minds { OnOk result (MindsCache H.Host None self.old self.new (λ k. ⊥)) }
         ensures idle { OnOk result (HasRoom (loom_parts self.old) words SPARE → words ≡ 0 → self.new ≡ self.old) }
         ensures buf { self.new.buf ≡ self.old.buf }
         ensures sure { IfErr result (λ f. HasRoom (loom_parts self.old) words SPARE → ⊥) }
-        ensures err { IfErr result (λ f. (a : Access) → IsSilent a → makes a ≡ 0 → IsRefused (loom_told H.Host self.old) (loom_told H.Host self.new) a f) }
-        ensures brings { fetched self.new ≡ fetched self.old }
-        ensures due { OnOk result (self.new.due ≡ self.old.due) }
-        ensures flag { OnOk result (self.new.thinned ≡ self.old.thinned) }
-        ensures lender { loom_lender self.new ≡ loom_lender self.old }
-        ensures outside { loom_outside H.Host self.new ≡ loom_outside H.Host self.old }
+        ensures faulted { IfErr result (IsFaulted (loom_told H.Host self.old) (loom_told H.Host self.new)) }
     {
         if has_room(&self.pager.levels.parts, words, SPARE_ENTRIES) {
             self.gather(words);
             return Ok(true);
         }
-        match self.room(words, SPARE_ENTRIES) {
-            Ok(()) => Ok(true),
-            Err(f) => match f {
-                RoomFault::Short => Ok(false),
-                RoomFault::Disk(f) => {
-                    let f = refusal_of(f);
-                    Err(self.refuse(f))
-                }
-            },
-        }
+        self.page(words, SPARE_ENTRIES)
     }
 
     // The need of an access to an object of so many words.
@@ -299,19 +252,15 @@ impl<'h, H: Host> LoomMemory<'h, H> {
 
     // Refuses for want of room.
     fn full(&mut self, s: Short, words: u32) -> MemFault
-        requires sound { IsSound H.Host self.old }
-        requires ready { IsReady (loom_told H.Host self.old) }
+        requires fit { MayCall (IsSound H.Host) (loom_told H.Host) self.old }
         requires used { is_used ((loom_core self.old).entries s.0).state ≡ true }
         requires small { words < 2 ^ 18 }
         requires sized { IsTrue (H.tells Role.Work) → words_at (loom_told H.Host self.old).heap ((loom_core self.old).entries s.0).name ≡ words }
         requires unfit { (need : Wanted) → IsNeed (loom_core self.old) (loom_pins self.old) s.0 words need → Fits self.old.ledger.core self.old.ledger.entries need.words need.entries → ⊥ }
         ensures is { (need : Wanted) × (result ≡ MemFault.CoreFull need) }
         ensures buf { self.new.buf ≡ self.old.buf }
-        ensures sound { IsSound H.Host self.new }
+        ensures leaves { Leaves H.Host self.old self.new (Ok result) }
         ensures err { IsRefusedAt (loom_told H.Host self.old) (loom_told H.Host self.new) ((loom_core self.old).entries s.0).name result }
-        ensures brings { fetched self.new ≡ fetched self.old }
-        ensures lender { loom_lender self.new ≡ loom_lender self.old }
-        ensures outside { loom_outside H.Host self.new ≡ loom_outside H.Host self.old }
     {
         let need = self.need(s, words);
         self.refuse(MemFault::CoreFull(need))
@@ -319,17 +268,13 @@ impl<'h, H: Host> LoomMemory<'h, H> {
 
     // Refuses for want of entries. Where the object is a leaf, its record tells how many words it takes.
     pub(crate) fn want(&mut self, s: Short) -> MemFault
-        requires sound { IsSound H.Host self.old }
-        requires ready { IsReady (loom_told H.Host self.old) }
+        requires fit { MayCall (IsSound H.Host) (loom_told H.Host) self.old }
         requires used { is_used ((loom_core self.old).entries s.0).state ≡ true }
         requires has { IsTrue (H.tells Role.Work) → Has (loom_told H.Host self.old).heap ((loom_core self.old).entries s.0).name }
         requires short { IsShort (loom_parts self.old) (loom_pins self.old).a (loom_pins self.old).b (loom_pins self.old).d 0 SPARE }
-        ensures sound { LeavesAll result (IsSound H.Host self.new) }
+        ensures leaves { LeavesRefused H.Host self.old self.new result }
         ensures damage { IsDamageOf (loom_rest self.new) ((loom_core self.old).entries s.0).name result }
         ensures err { IsRefusedAt (loom_told H.Host self.old) (loom_told H.Host self.new) ((loom_core self.old).entries s.0).name result }
-        ensures brings { fetched self.new ≡ fetched self.old }
-        ensures lender { loom_lender self.new ≡ loom_lender self.old }
-        ensures outside { loom_outside H.Host self.new ≡ loom_outside H.Host self.old }
     {
         entries_are_counted(&self.pager.levels.parts.names.table);
         if self
@@ -354,31 +299,21 @@ impl<'h, H: Host> LoomMemory<'h, H> {
     // The object of a leaf comes in, whose record is in the buffer and has so many words. Where there is too little room, what is dead goes
     // first.
     fn bring_leaf(&mut self, s: Short, words: u32) -> Result<(), MemFault>
-        requires sound { IsSound H.Host self.old }
-        requires ready { IsReady (loom_told H.Host self.old) }
+        requires fit { MayCall (IsSound H.Host) (loom_told H.Host) self.old }
         requires out { 1 ≤ outside (loom_core self.old) s.0 }
         requires leaf { place_of ((loom_core self.old).entries s.0).state ≡ None }
         requires record { IsRead (H.tells Role.Work) self.old.buf (disk_of H.Host (loom_now self.old) (loom_rest self.old)) ((loom_core self.old).entries s.0).name words }
         requires small { words < 2 ^ 18 }
-        ensures thinned { OnOk result (HasThinned (loom_told H.Host self.old) (loom_told H.Host self.new)) }
-        ensures gone { OnOk result (IsFreed H.Host self.old self.new words SPARE) }
-        ensures sound { KeepsSound result (IsSound H.Host self.new) }
-        ensures regs { OnOk result (self.new.regs ≡ self.old.regs) }
+        ensures thins { OnOk result (MayThin H.Host (λ k. k ≡ ((loom_core self.old).entries s.0).name) self.old self.new) }
+        ensures comes { OnOk result (Comes H.Host words self.old self.new) }
+        ensures leaves { LeavesBeside H.Host self.old self.new result }
         ensures there { OnOk result ((at : ℕ) × (place_of ((loom_core self.new).entries s.0).state ≡ Some at)) }
         ensures spare { OnOk result (SPARE_BEHIND_CLASS ≤ spare_of (loom_parts self.new)) }
         ensures counted { OnOk result (fetched self.new ≡ counted (fetched self.old)) }
         ensures buf { self.new.buf ≡ self.old.buf }
         ensures damage { IfErr result (λ f. HasRoom (loom_parts self.old) words SPARE → IsDamageOf (loom_rest self.new) ((loom_core self.old).entries s.0).name f) }
-        ensures next { OnOk result (self.new.ledger.next ≡ self.old.ledger.next) }
-        ensures gentle { OnOk result (HasRoom (loom_parts self.old) words SPARE → IsGentle H.Host self.old self.new) }
-        ensures minds { OnOk result (MindsCache H.Host None self.old self.new (λ k. k ≡ ((loom_core self.old).entries s.0).name)) }
         ensures err { IfErr result (IsRefusedAt (loom_told H.Host self.old) (loom_told H.Host self.new) ((loom_core self.old).entries s.0).name) }
         ensures away { OnErr result (fetched self.new ≡ fetched self.old) }
-        ensures due { OnOk result (IsOnTime H.Host self.old self.new) }
-        ensures flag { OnOk result (KeepsThinned self.old self.new) }
-        ensures pins { OnOk result (loom_pins self.new ≡ loom_pins self.old) }
-        ensures lender { loom_lender self.new ≡ loom_lender self.old }
-        ensures outside { loom_outside H.Host self.new ≡ loom_outside H.Host self.old }
     {
         if words > self.ledger.core {
             return Err(self.full(s, words));
@@ -399,30 +334,21 @@ impl<'h, H: Host> LoomMemory<'h, H> {
 
     // Brings the object of an entry in, where as many entries are free as a call asks for. A body stays as it is.
     pub(crate) fn bring(&mut self, s: Short) -> Result<(), MemFault>
-        requires sound { IsSound H.Host self.old }
-        requires ready { IsReady (loom_told H.Host self.old) }
+        requires fit { MayCall (IsSound H.Host) (loom_told H.Host) self.old }
         requires out { 1 ≤ outside (loom_core self.old) s.0 }
         requires has { IsTrue (H.tells Role.Work) → Has (loom_told H.Host self.old).heap ((loom_core self.old).entries s.0).name }
         requires spare { SPARE ≤ spare_of (loom_parts self.old) }
-        ensures thinned { OnOk result (HasThinned (loom_told H.Host self.old) (loom_told H.Host self.new)) }
-        ensures gone { OnOk result (IsTrue (H.tells Role.Work) → place_of ((loom_core self.old).entries s.0).state ≡ None → IsFreed H.Host self.old self.new (words_at (loom_told H.Host self.old).heap ((loom_core self.old).entries s.0).name) SPARE) }
-        ensures sound { KeepsSound result (IsSound H.Host self.new) }
-        ensures regs { OnOk result (self.new.regs ≡ self.old.regs) }
+        ensures thins { OnOk result (MayThin H.Host (IsBrought self.old self.new ((loom_core self.old).entries s.0).name) self.old self.new) }
+        ensures comes { OnOk result (IsTrue (H.tells Role.Work) → place_of ((loom_core self.old).entries s.0).state ≡ None → Comes H.Host (words_at (loom_told H.Host self.old).heap ((loom_core self.old).entries s.0).name) self.old self.new) }
+        ensures leaves { LeavesBeside H.Host self.old self.new result }
         ensures there { OnOk result ((at : ℕ) × (place_of ((loom_core self.new).entries s.0).state ≡ Some at)) }
         ensures spare { OnOk result (SPARE_BEHIND_CLASS ≤ spare_of (loom_parts self.new)) }
         ensures idle { OnOk result ((at : ℕ) → place_of ((loom_core self.old).entries s.0).state ≡ Some at → self.new ≡ self.old) }
         ensures counted { OnOk result (place_of ((loom_core self.old).entries s.0).state ≡ None → fetched self.new ≡ counted (fetched self.old)) }
         ensures damage { IsDamaged self.old self.new ((loom_core self.old).entries s.0).name result }
         ensures tested { OnOk result (place_of ((loom_core self.old).entries s.0).state ≡ None → IsTested self.new ((loom_core self.old).entries s.0).name) }
-        ensures gentle { OnOk result (IsTrue (H.tells Role.Work) → place_of ((loom_core self.old).entries s.0).state ≡ None → HasRoom (loom_parts self.old) (words_at (loom_told H.Host self.old).heap ((loom_core self.old).entries s.0).name) SPARE → IsGentle H.Host self.old self.new) }
-        ensures minds { OnOk result (MindsCache H.Host None self.old self.new (IsBrought self.old self.new ((loom_core self.old).entries s.0).name)) }
         ensures err { IfErr result (IsRefusedAt (loom_told H.Host self.old) (loom_told H.Host self.new) ((loom_core self.old).entries s.0).name) }
         ensures brings { BringsOne self.old self.new (place_of ((loom_core self.old).entries s.0).state ≡ None) }
-        ensures due { OnOk result (IsOnTime H.Host self.old self.new) }
-        ensures flag { OnOk result (KeepsThinned self.old self.new) }
-        ensures pins { OnOk result (loom_pins self.new ≡ loom_pins self.old) }
-        ensures lender { loom_lender self.new ≡ loom_lender self.old }
-        ensures outside { loom_outside H.Host self.new ≡ loom_outside H.Host self.old }
     {
         if self
             .pager
@@ -444,33 +370,20 @@ impl<'h, H: Host> LoomMemory<'h, H> {
 
     // Brings the object of a register into the core, and leaves 26 entries free. What is dead goes before anything living.
     pub(crate) fn load_with_room(&mut self, of: Reg) -> Result<Short, MemFault>
-        requires sound { IsSound H.Host self.old }
-        requires ready { IsReady (loom_told H.Host self.old) }
+        requires fit { MayCall (IsSound H.Host) (loom_told H.Host) self.old }
         requires name { IsRef ((loom_told H.Host self.old).regs of) }
-        ensures thinned { OnOk result (HasThinned (loom_told H.Host self.old) (loom_told H.Host self.new)) }
-        ensures gone { OnOk result (IsTrue (H.tells Role.Work) → place_of ((loom_core self.old).entries (word_in self.old.regs of)).state ≡ None → IsFreed H.Host self.old self.new (words_at (loom_told H.Host self.old).heap (name_at ((loom_told H.Host self.old).regs of))) SPARE) }
-        ensures sound { KeepsSound result (IsSound H.Host self.new) }
-        ensures word { IfOk result (λ s. s.0 ≡ word_in self.new.regs of) }
-        ensures loaded { IfOk result (λ s. IsLoaded H.Host self.new of s.0) }
-        ensures core { OnOk result ((a : Access) → target_of a ≡ Some of → makes a ≡ 0 → IfBounds (loom_told H.Host self.old).bounds (HasCore (loom_told H.Host self.old) a)) }
+        ensures thins { OnOk result (MayThin H.Host (IsBrought self.old self.new (name_at ((loom_told H.Host self.old).regs of))) self.old self.new) }
+        ensures comes { OnOk result (IsTrue (H.tells Role.Work) → place_of ((loom_core self.old).entries (word_in self.old.regs of)).state ≡ None → Comes H.Host (words_at (loom_told H.Host self.old).heap (name_at ((loom_told H.Host self.old).regs of))) self.old self.new) }
+        ensures leaves { LeavesBeside H.Host self.old self.new result }
+        ensures here { IfOk result (λ s. IsHere H.Host (loom_told H.Host self.old) self.new of s.0) }
         ensures spare { OnOk result (SPARE_BEHIND_CLASS ≤ spare_of (loom_parts self.new)) }
-        ensures there { OnOk result (IsTrue (is_resident self.new (name_at ((loom_told H.Host self.old).regs of)))) }
-        ensures bounded { OnOk result (ForBounds (loom_told H.Host self.new).bounds (λ b. words_resident self.new ≤ b.core)) }
         ensures idle { OnOk result ((at : ℕ) → place_of ((loom_core self.old).entries (word_in self.old.regs of)).state ≡ Some at → HasRoom (loom_parts self.old) 0 SPARE → self.new ≡ self.old) }
         ensures counted { OnOk result (place_of ((loom_core self.old).entries (word_in self.old.regs of)).state ≡ None → fetched self.new ≡ counted (fetched self.old)) }
         ensures damage { IsDamaged self.old self.new (name_at ((loom_told H.Host self.old).regs of)) result }
         ensures tested { OnOk result (place_of ((loom_core self.old).entries (word_in self.old.regs of)).state ≡ None → IsTested self.new (name_at ((loom_told H.Host self.old).regs of))) }
-        ensures gentle { OnOk result (IsTrue (H.tells Role.Work) → place_of ((loom_core self.old).entries (word_in self.old.regs of)).state ≡ None → HasRoom (loom_parts self.old) (words_at (loom_told H.Host self.old).heap (name_at ((loom_told H.Host self.old).regs of))) SPARE → IsGentle H.Host self.old self.new) }
-        ensures minds { OnOk result (MindsCache H.Host None self.old self.new (IsBrought self.old self.new (name_at ((loom_told H.Host self.old).regs of)))) }
         ensures err { IfErr result (λ f. (a : Access) → target_of a ≡ Some of → makes a ≡ 0 → IsSilent a → IsLater (loom_told H.Host self.old) (loom_told H.Host self.new) × Refuses (loom_told H.Host self.old) (loom_told H.Host self.new) (Does a) f) }
         ensures brings { BringsOne self.old self.new ((is_resident self.old (name_at ((loom_told H.Host self.old).regs of)) ≡ false) ⊎ (HasRoom (loom_parts self.old) 0 SPARE → ⊥)) }
-        ensures due { OnOk result (IsOnTime H.Host self.old self.new) }
-        ensures flag { OnOk result (KeepsThinned self.old self.new) }
         ensures entries { OnOk result (IsFreed H.Host self.old self.new 0 SPARE) }
-        ensures regs { OnOk result (self.new.regs ≡ self.old.regs) }
-        ensures pins { OnOk result (loom_pins self.new ≡ loom_pins self.old) }
-        ensures lender { loom_lender self.new ≡ loom_lender self.old }
-        ensures outside { loom_outside H.Host self.new ≡ loom_outside H.Host self.old }
     {
         let s = Short(self.regs[of.index()]);
         match self.clear_first(0) {

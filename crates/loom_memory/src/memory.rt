@@ -10,6 +10,7 @@ ghost use Rattle.disk_objects.specs.Disk.{disk_room};
 ghost use Rattle.leaf_lambda.specs.Parts.{spare_of};
 
 use crate::ledger::Ledger;
+use crate::refusals::refusal_of;
 use crate::thinned::note_gone;
 use leaf_lambda::fields::{drop_word, hold_word};
 use long_names::{Name, REGISTERS};
@@ -34,6 +35,8 @@ pub struct LoomMemory<'h, H: Host> {
 }
 
 impl<'h, H: Host> LoomMemory<'h, H> {
+    ghost use Rattle.loom_memory.specs.Effects.{LeavesBeside, Puts};
+    ghost use Rattle.std.specs.Prelude.{Ok};
     ghost use Rattle.loom_memory.specs.Memory.{loom_told, loom_outside, word_in, loom_core, loom_lender, loom_rest, IsSound};
     ghost use Rattle.loom_memory.specs.Gentle.{IsSteady};
     ghost use Rattle.loom_memory.specs.Thinned.{StaysThinned};
@@ -45,13 +48,11 @@ impl<'h, H: Host> LoomMemory<'h, H> {
         requires used { is_short w ≡ true → is_used ((loom_core self.old).entries w).state ≡ true }
         requires some { w ≢ 0 }
         ensures told { loom_told H.Host self.new ≡ record (loom_told H.Host self.old) { regs = set_register (loom_told H.Host self.old).regs to (meant (loom_core self.old).entries [] 0 w) } }
-        ensures sound { IsSound H.Host self.new }
+        ensures leaves { LeavesBeside H.Host self.old self.new (Ok result) }
         ensures disk { loom_rest self.new ≡ loom_rest self.old }
         ensures steady { IsSteady H.Host self.old self.new }
         ensures due { self.new.due ≡ self.old.due }
         ensures stays { StaysThinned self.old self.new (word_in self.old.regs to) }
-        ensures lender { loom_lender self.new ≡ loom_lender self.old }
-        ensures outside { loom_outside H.Host self.new ≡ loom_outside H.Host self.old }
     {
         let levels = &mut self.pager.levels;
         hold_word(&mut levels.parts, w);
@@ -63,9 +64,12 @@ impl<'h, H: Host> LoomMemory<'h, H> {
 }
 
 impl<'h, H: Host> LoomMemory<'h, H> {
+    ghost use Rattle.loom_memory.specs.Effects.{IsFaulted, Leaves, Makes, Pages, Rests};
+    ghost use Rattle.object_memory.specs.Fit.{MayCall};
     ghost use Rattle.purger.specs.Purge.{HasRoom, OnShort, OnDisk, Undisturbed, IsShort, IsPurgeFault};
     ghost use Rattle.loom_memory.specs.Gentle.{IsResting, IsSpared};
-    ghost use Rattle.loom_memory.specs.Own.{KeepsCache, MindsCache};
+    ghost use Rattle.loom_memory.specs.Own.{MindsCache};
+    ghost use Rattle.loom_memory.specs.Gentle.{KeepsCache};
     ghost use Rattle.loom_memory.specs.Residents.{fetched};
     ghost use Rattle.loom_memory.specs.Thinned.{is_thinned};
     ghost use Rattle.long_names.specs.State.{IsRef};
@@ -74,36 +78,32 @@ impl<'h, H: Host> LoomMemory<'h, H> {
     ghost use Rattle.object_memory.specs.Told.{Told, IsReady};
     ghost use Rattle.object_memory.specs.Plain.{refused};
     ghost use Rattle.object_memory.specs.Contract.{Does, IsLater, KeepsSound, Refuses, makes};
-    ghost use Rattle.loom_memory.specs.Memory.{loom_told, loom_outside, word_in, loom_core, loom_lender, loom_now, loom_parts, loom_pins, loom_rest, IsSound, IsQuiet, IsCalm, IsSilent, IsRefused};
+    ghost use Rattle.loom_memory.specs.Memory.{loom_told, loom_outside, word_in, loom_core, loom_lender, loom_now, loom_parts, loom_pins, loom_rest, IsSound, IsSilent, IsRefused};
+    ghost use Rattle.loom_memory.specs.Gentle.{IsQuiet, IsCalm};
 
-    // Makes room for so many words and entries, beside the objects of the slots.
-    pub(crate) fn room(&mut self, words: u32, entries: u16) -> Result<(), RoomFault>
-        requires sound { IsSound H.Host self.old }
-        ensures quiet { Undisturbed result (IsQuiet (loom_told H.Host self.old) (loom_told H.Host self.new)) }
-        ensures sound { Undisturbed result (IsSound H.Host self.new) }
-        ensures calm { IsCalm (loom_pins self.old) (loom_core self.old) (loom_core self.new) }
-        ensures regs { self.new.regs ≡ self.old.regs }
-        ensures pins { loom_pins self.new ≡ loom_pins self.old }
-        ensures ledger { self.new.ledger ≡ self.old.ledger }
-        ensures room { OnOk result ((words ≤ largest_of (loom_parts self.new).segment) × (entries ≤ spare_of (loom_parts self.new))) }
-        ensures short { IfErr result (λ f. OnShort f (IsShort (loom_parts self.new) (loom_pins self.old).a (loom_pins self.old).b (loom_pins self.old).d words entries)) }
-        ensures fault { IfErr result (λ f. OnDisk f (IsPurgeFault H.Host (loom_now self.old) (loom_now self.new))) }
-        ensures leaves { (t : ℕ) → place_of ((loom_core self.old).entries t).state ≡ None → place_of ((loom_core self.new).entries t).state ≡ None }
-        ensures sure { HasRoom (loom_parts self.old) words entries → IsOk result }
-        ensures needless { HasRoom (loom_parts self.old) words entries → IsResting self.old self.new }
-        ensures cached { HasRoom (loom_parts self.old) words entries → KeepsCache H.Host self.old self.new }
-        ensures minds { Undisturbed result (MindsCache H.Host None self.old self.new (λ k. ⊥)) }
-        ensures thinned { is_thinned self.new ≡ is_thinned self.old }
+    // Makes room for so many words and entries, beside the objects of the slots. That no more can go is no refusal: it answers whether there is room.
+    pub(crate) fn page(&mut self, words: u32, entries: u16) -> Result<bool, MemFault>
+        requires fit { MayCall (IsSound H.Host) (loom_told H.Host) self.old }
+        ensures pages { OnOk result (Pages H.Host self.old self.new) }
+        ensures room { IfOk result (λ enough. IsTrue enough → (words ≤ largest_of (loom_parts self.new).segment) × (entries ≤ spare_of (loom_parts self.new))) }
+        ensures short { IfOk result (λ enough. enough ≡ false → IsShort (loom_parts self.new) (loom_pins self.new).a (loom_pins self.new).b (loom_pins self.new).d words entries) }
+        ensures rests { OnOk result (HasRoom (loom_parts self.old) words entries → Rests H.Host self.old self.new) }
+        ensures enough { IfOk result (λ enough. HasRoom (loom_parts self.old) words entries → IsTrue enough) }
+        ensures sure { IfErr result (λ f. HasRoom (loom_parts self.old) words entries → ⊥) }
+        ensures faulted { IfErr result (IsFaulted (loom_told H.Host self.old) (loom_told H.Host self.new)) }
         ensures buf { self.new.buf ≡ self.old.buf }
-        ensures work { IsWorkOnly H.Host (loom_now self.old) (loom_now self.new) }
-        ensures limit { disk_room (loom_rest self.new) ≡ disk_room (loom_rest self.old) }
-        ensures brings { fetched self.new ≡ fetched self.old }
-        ensures due { self.new.due ≡ self.old.due }
-        ensures flag { self.new.thinned ≡ self.old.thinned }
-        ensures lender { loom_lender self.new ≡ loom_lender self.old }
-        ensures outside { loom_outside H.Host self.new ≡ loom_outside H.Host self.old }
+        ensures leaves { Leaves H.Host self.old self.new result }
     {
-        self.pager.make_room(words, entries)
+        match self.pager.make_room(words, entries) {
+            Ok(()) => Ok(true),
+            Err(f) => match f {
+                RoomFault::Short => Ok(false),
+                RoomFault::Disk(f) => {
+                    let f = refusal_of(f);
+                    Err(self.refuse(f))
+                }
+            },
+        }
     }
 
     // Counts a refusal.

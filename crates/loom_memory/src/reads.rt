@@ -15,6 +15,8 @@ use object_memory::{MemFault, Reg};
 use object_table::Short;
 
 impl<'h, H: Host> LoomMemory<'h, H> {
+    ghost use Rattle.loom_memory.specs.Effects.{LeavesRefused};
+    ghost use Rattle.object_memory.specs.Fit.{MayCall, StaysCallable};
     ghost use Rattle.long_names.specs.Words.{IsSmallInteger, literal_count};
     ghost use Rattle.long_names.specs.Objects.{fields_of};
     ghost use Rattle.long_names.specs.State.{name_at, part_at, IsRef};
@@ -22,8 +24,8 @@ impl<'h, H: Host> LoomMemory<'h, H> {
     ghost use Rattle.object_memory.specs.Told.{Told, IsReady};
     ghost use Rattle.object_memory.specs.Shape.{code_at, field_count, IsPartAt};
     ghost use Rattle.object_memory.specs.Contract.{Accessed, LeavesAll, MayDo, makes};
-    ghost use Rattle.object_memory.specs.Fit.{MayCall, StaysCallable};
-    ghost use Rattle.loom_memory.specs.Memory.{loom_told, loom_outside, loom_lender, loom_core, IsSound, IsQuiet, IsSilent, IsRefused};
+    ghost use Rattle.loom_memory.specs.Memory.{loom_told, loom_outside, loom_lender, loom_core, IsSound, IsSilent, IsRefused};
+    ghost use Rattle.loom_memory.specs.Gentle.{IsQuiet};
     ghost use Rattle.loom_memory.specs.Residents.{fetched, is_resident};
     ghost use Rattle.loom_memory.specs.Own.{BringsOne, IsSparing};
     ghost use Rattle.loom_memory.specs.Damage.{IsDamaged};
@@ -36,11 +38,8 @@ impl<'h, H: Host> LoomMemory<'h, H> {
         requires sound { IsSound H.Host self.old }
         requires used { is_used ((loom_core self.old).entries s.0).state ≡ true }
         ensures is { result ≡ MemFault.Damaged NOWHERE ((loom_core self.old).entries s.0).name }
-        ensures sound { LeavesAll result (IsSound H.Host self.new) }
+        ensures leaves { LeavesRefused H.Host self.old self.new result }
         ensures err { (t : Told) (a : Access) → IsQuiet t (loom_told H.Host self.old) → IsReady t → IsSilent a → makes a ≡ 0 → (IsTrue t.tells → ⊥) → IsRefused t (loom_told H.Host self.new) a result }
-        ensures brings { fetched self.new ≡ fetched self.old }
-        ensures lender { loom_lender self.new ≡ loom_lender self.old }
-        ensures outside { loom_outside H.Host self.new ≡ loom_outside H.Host self.old }
     {
         let name = self.pager.levels.parts.names.table.used_entry(s).name;
         self.wrong(name)

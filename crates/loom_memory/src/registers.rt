@@ -13,12 +13,14 @@ use object_table::Short;
 use purger::touches::touch;
 
 impl<'h, H: Host> LoomMemory<'h, H> {
+    ghost use Rattle.loom_memory.specs.Effects.{LeavesBeside};
+    ghost use Rattle.object_memory.specs.Fit.{KeepsCallable};
+    ghost use Rattle.std.specs.Prelude.{Ok};
     ghost use Rattle.long_names.specs.Objects.{is_ref, int_of};
     ghost use Rattle.long_names.specs.State.{set_register, name_at, IsRef};
     ghost use Rattle.long_names.specs.Words.{IsSmallInteger, IsValue};
     ghost use Rattle.long_names.specs.declared.value.Value.TheVariants.{Int};
     ghost use Rattle.object_memory.specs.Told.{has_slot};
-    ghost use Rattle.object_memory.specs.Fit.{KeepsCallable};
     ghost use Rattle.loom_memory.specs.Memory.{loom_told, loom_outside, loom_lender, word_in, loom_core, loom_rest, IsSound};
     ghost use Rattle.loom_memory.specs.Gentle.{IsSteady};
     ghost use Rattle.loom_memory.specs.Thinned.{StaysThinned};
@@ -83,13 +85,11 @@ impl<'h, H: Host> LoomMemory<'h, H> {
         requires used { is_short w ≡ true → is_used ((loom_core self.old).entries w).state ≡ true }
         requires some { w ≢ 0 }
         ensures told { loom_told H.Host self.new ≡ record (loom_told H.Host self.old) { regs = set_register (loom_told H.Host self.old).regs to (meant (loom_core self.old).entries [] 0 w) } }
-        ensures sound { IsSound H.Host self.new }
+        ensures leaves { LeavesBeside H.Host self.old self.new (Ok result) }
         ensures disk { loom_rest self.new ≡ loom_rest self.old }
         ensures steady { IsSteady H.Host self.old self.new }
         ensures due { self.new.due ≡ self.old.due }
         ensures stays { StaysThinned self.old self.new (word_in self.old.regs to) }
-        ensures lender { loom_lender self.new ≡ loom_lender self.old }
-        ensures outside { loom_outside H.Host self.new ≡ loom_outside H.Host self.old }
     {
         self.note_use(w);
         self.replace_word(to, w);
@@ -101,12 +101,10 @@ impl<'h, H: Host> LoomMemory<'h, H> {
     fn put_apart(&mut self, to: Reg)
         requires { IsSound H.Host self.old }
         ensures told { loom_told H.Host self.new ≡ record (loom_told H.Host self.old) { regs = set_register (loom_told H.Host self.old).regs to (meant (loom_core self.old).entries [] 0 1) } }
-        ensures sound { IsSound H.Host self.new }
+        ensures leaves { LeavesBeside H.Host self.old self.new (Ok result) }
         ensures steady { IsSteady H.Host self.old self.new }
         ensures due { self.new.due ≡ self.old.due }
         ensures stays { StaysThinned self.old self.new (word_in self.old.regs to) }
-        ensures lender { loom_lender self.new ≡ loom_lender self.old }
-        ensures outside { loom_outside H.Host self.new ≡ loom_outside H.Host self.old }
     {
         self.put_word(to, 1);
     }
@@ -117,12 +115,10 @@ impl<'h, H: Host> LoomMemory<'h, H> {
         requires sound { IsSound H.Host self.old }
         requires odd { w % 2 ≡ 1 }
         ensures told { loom_told H.Host self.new ≡ record (loom_told H.Host self.old) { regs = set_register (loom_told H.Host self.old).regs to (meant (loom_core self.old).entries [] 0 w) } }
-        ensures sound { IsSound H.Host self.new }
+        ensures leaves { LeavesBeside H.Host self.old self.new (Ok result) }
         ensures steady { IsSteady H.Host self.old self.new }
         ensures due { self.new.due ≡ self.old.due }
         ensures stays { StaysThinned self.old self.new (word_in self.old.regs to) }
-        ensures lender { loom_lender self.new ≡ loom_lender self.old }
-        ensures outside { loom_outside H.Host self.new ≡ loom_outside H.Host self.old }
     {
         if w == 1 {
             self.put_apart(to);

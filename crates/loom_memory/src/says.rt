@@ -33,6 +33,9 @@ fn has_text(kind: Kind) -> bool
 }
 
 impl<'h, H: Host> LoomMemory<'h, H> {
+    ghost use Rattle.loom_memory.specs.Effects.{Leaves};
+    ghost use Rattle.object_memory.specs.Fit.{MayCall, StaysCallable};
+    ghost use Rattle.std.specs.Prelude.{Ok};
     ghost use Rattle.long_names.specs.Counting.{Rose};
     ghost use Rattle.long_names.specs.State.{name_at};
     ghost use Rattle.loom_memory.specs.Damage.{IsDamaged, IsUndamaged};
@@ -42,7 +45,6 @@ impl<'h, H: Host> LoomMemory<'h, H> {
     ghost use Rattle.long_names.specs.Access.{Say, Nothing, said_by};
     ghost use Rattle.object_memory.specs.Told.{Told, IsReady};
     ghost use Rattle.object_memory.specs.Contract.{Accessed, ForBounds, MayDo, said_faults};
-    ghost use Rattle.object_memory.specs.Fit.{MayCall, StaysCallable};
     ghost use Rattle.loom_memory.specs.Memory.{loom_told, loom_outside, loom_lender, loom_core, loom_parts, IsSound, IsRefused};
     ghost use Rattle.loom_memory.specs.Says.{IsPut, IsSaid, IsSpeech, IsText};
 
@@ -54,13 +56,10 @@ impl<'h, H: Host> LoomMemory<'h, H> {
         ensures part { IfErr result (λ count. (n : ℕ) × IsPut (loom_told H.Host self.old) (loom_told H.Host self.new) (take n run.now)) }
         ensures count { IfErr result (λ count. ForBounds (loom_told H.Host self.new).bounds (λ b. b.said_faults ≡ count)) }
         ensures rose { IfErr result (λ count. Rose (said_faults (loom_told H.Host self.old).bounds) (said_faults (loom_told H.Host self.new).bounds)) }
-        ensures sound { IsSound H.Host self.new }
+        ensures leaves { Leaves H.Host self.old self.new (Ok result) }
         ensures parts { loom_parts self.new ≡ loom_parts self.old }
         ensures regs { self.new.regs ≡ self.old.regs }
         ensures speech { IsSpeech H.Host self.old self.new }
-        ensures brings { fetched self.new ≡ fetched self.old }
-        ensures lender { loom_lender self.new ≡ loom_lender self.old }
-        ensures outside { loom_outside H.Host self.new ≡ loom_outside H.Host self.old }
     {
         let levels = &mut self.pager.levels;
         match levels.disk.write_to(Role::Transcript, run) {
@@ -77,13 +76,10 @@ impl<'h, H: Host> LoomMemory<'h, H> {
         ensures said { OnOk result ((t : Told) → IsSaid t (loom_told H.Host self.old) of i → IsSaid t (loom_told H.Host self.new) of (i + length run.now)) }
         ensures err { IfErr result (λ f. (t : Told) → IsReady t → IsSaid t (loom_told H.Host self.old) of i → IsRefused t (loom_told H.Host self.new) (Say of) f) }
         ensures undamaged { IfErr result IsUndamaged }
-        ensures sound { IsSound H.Host self.new }
+        ensures leaves { Leaves H.Host self.old self.new (Ok result) }
         ensures parts { OnOk result (loom_parts self.new ≡ loom_parts self.old) }
         ensures regs { OnOk result (self.new.regs ≡ self.old.regs) }
         ensures speech { OnOk result (IsSpeech H.Host self.old self.new) }
-        ensures brings { fetched self.new ≡ fetched self.old }
-        ensures lender { loom_lender self.new ≡ loom_lender self.old }
-        ensures outside { loom_outside H.Host self.new ≡ loom_outside H.Host self.old }
     {
         match self.put_run(run) {
             Ok(()) => Ok(()),
@@ -108,12 +104,9 @@ impl<'h, H: Host> LoomMemory<'h, H> {
         ensures said { OnOk result ((t : Told) → IsSaid t (loom_told H.Host self.old) of i → IsSaid t (loom_told H.Host self.new) of (i + count)) }
         ensures err { IfErr result (λ f. (t : Told) → IsReady t → IsSaid t (loom_told H.Host self.old) of i → IsRefused t (loom_told H.Host self.new) (Say of) f) }
         ensures undamaged { IfErr result IsUndamaged }
-        ensures sound { IsSound H.Host self.new }
+        ensures leaves { Leaves H.Host self.old self.new (Ok result) }
         ensures parts { OnOk result (loom_parts self.new ≡ loom_parts self.old) }
         ensures speech { OnOk result (IsSpeech H.Host self.old self.new) }
-        ensures brings { fetched self.new ≡ fetched self.old }
-        ensures lender { loom_lender self.new ≡ loom_lender self.old }
-        ensures outside { loom_outside H.Host self.new ≡ loom_outside H.Host self.old }
     {
         let _all = bytes_into(&self.pager.levels.parts, s, i, piece);
         self.say_piece(of, i, piece)
@@ -129,12 +122,9 @@ impl<'h, H: Host> LoomMemory<'h, H> {
         ensures said { OnOk result ((t : Told) → IsSaid t (loom_told H.Host self.old) of i → IsSaid t (loom_told H.Host self.new) of (i + count)) }
         ensures err { IfErr result (λ f. (t : Told) → IsReady t → IsSaid t (loom_told H.Host self.old) of i → IsRefused t (loom_told H.Host self.new) (Say of) f) }
         ensures undamaged { IfErr result IsUndamaged }
-        ensures sound { IsSound H.Host self.new }
+        ensures leaves { Leaves H.Host self.old self.new (Ok result) }
         ensures parts { OnOk result (loom_parts self.new ≡ loom_parts self.old) }
         ensures speech { OnOk result (IsSpeech H.Host self.old self.new) }
-        ensures brings { fetched self.new ≡ fetched self.old }
-        ensures lender { loom_lender self.new ≡ loom_lender self.old }
-        ensures outside { loom_outside H.Host self.new ≡ loom_outside H.Host self.old }
     {
         let mut piece = [0; PIECE as usize];
         self.say_run(of, s, i, count, &mut piece[..count as usize])
@@ -148,11 +138,8 @@ impl<'h, H: Host> LoomMemory<'h, H> {
         ensures said { OnOk result ((t : Told) → IsSaid t (loom_told H.Host self.old) of 0 → IsSaid t (loom_told H.Host self.new) of len) }
         ensures err { IfErr result (λ f. (t : Told) → IsReady t → IsSaid t (loom_told H.Host self.old) of 0 → IsRefused t (loom_told H.Host self.new) (Say of) f) }
         ensures undamaged { IfErr result IsUndamaged }
-        ensures sound { IsSound H.Host self.new }
+        ensures leaves { Leaves H.Host self.old self.new (Ok result) }
         ensures speech { OnOk result (IsSpeech H.Host self.old self.new) }
-        ensures brings { fetched self.new ≡ fetched self.old }
-        ensures lender { loom_lender self.new ≡ loom_lender self.old }
-        ensures outside { loom_outside H.Host self.new ≡ loom_outside H.Host self.old }
     {
         let mut i = 0;
         while i < len {

@@ -10,8 +10,8 @@ ghost use Rattle.leaf_lambda.specs.Parts.{core_of, spare_of, IsParts};
 ghost use Rattle.leaf_lambda.specs.declared.translate.TheConstants.{RESERVE as SETTLED};
 ghost use Rattle.long_names.specs.declared.limits.TheConstants.{MAKINGS_BEFORE_FREEING as MAKINGS};
 
-use crate::bring::refusal_of;
 use crate::memory::LoomMemory;
+use crate::refusals::refusal_of;
 use leaf_lambda::{Parts, RESERVE};
 use long_names::MAKINGS_BEFORE_FREEING;
 use loom_host::{Host, Role};
@@ -57,6 +57,8 @@ fn least(a: u32, b: u32) -> u32
 }
 
 impl<'h, H: Host> LoomMemory<'h, H> {
+    ghost use Rattle.loom_memory.specs.Effects.{CountsAnew, Frees, HasEnded, HasSwept, IsFaulted, IsUntouched, Leaves, Pages};
+    ghost use Rattle.object_memory.specs.Fit.{MayCall, StaysCallable};
     ghost use Rattle.long_names.specs.Heap.{object_count, Has};
     ghost use Rattle.long_names.specs.Kept.{kept};
     ghost use Rattle.object_memory.specs.Told.{IsReady, is_root};
@@ -64,12 +66,13 @@ impl<'h, H: Host> LoomMemory<'h, H> {
     ghost use Rattle.object_memory.specs.Contract.{Called, KeepsSound, Settles, Thins, makes};
     ghost use Rattle.long_names.specs.Access.{Access};
     ghost use Rattle.loom_memory.specs.Freed.{IsAlive, IsFreed, IsOnTime};
-    ghost use Rattle.object_memory.specs.Fit.{MayCall, StaysCallable};
     ghost use Rattle.purger.specs.Draining.{KeepsHeld};
     ghost use Rattle.purger.specs.Purge.{HasRoom};
-    ghost use Rattle.loom_memory.specs.Memory.{loom_told, loom_outside, loom_lender, loom_core, loom_parts, loom_pins, loom_rest, IsCalm, IsQuiet, IsRefused, IsSilent, IsSound};
+    ghost use Rattle.loom_memory.specs.Memory.{loom_told, loom_outside, loom_lender, loom_core, loom_parts, loom_pins, loom_rest, IsRefused, IsSilent, IsSound};
+    ghost use Rattle.loom_memory.specs.Gentle.{IsCalm, IsQuiet};
     ghost use Rattle.loom_memory.specs.Numbers.{IsNumbered};
-    ghost use Rattle.loom_memory.specs.Own.{HasRested, IsIdle, KeepsCache, MindsCache};
+    ghost use Rattle.loom_memory.specs.Own.{HasRested, MindsCache};
+    ghost use Rattle.loom_memory.specs.Gentle.{IsIdle, KeepsCache};
     ghost use Rattle.loom_memory.specs.Residents.{fetched, is_resident};
     ghost use Rattle.loom_memory.specs.Thinned.{is_thinned, HasLasted, KeepsThinned};
     ghost use Rattle.loom_memory.specs.Makings.{HasBegun, HasKept, HasSettled, HasThinned, IsLost, IsRefusedCall, IsRefusedMaking};
@@ -101,34 +104,13 @@ impl<'h, H: Host> LoomMemory<'h, H> {
 
     // Frees dead objects until none is dead: what is held then is what is kept. The buffer keeps its record.
     pub(crate) fn thin(&mut self) -> Result<(), MemFault>
-        requires sound { IsSound H.Host self.old }
-        requires ready { IsReady (loom_told H.Host self.old) }
-        ensures thinned { OnOk result (HasThinned (loom_told H.Host self.old) (loom_told H.Host self.new)) }
-        ensures kept { OnOk result (HasKept (loom_told H.Host self.old) (loom_told H.Host self.new)) }
-        ensures count { OnOk result (IsTrue (H.tells Role.Work) → object_count (loom_told H.Host self.new).heap ≡ self.new.ledger.held) }
-        ensures again { OnOk result (IsTrue (H.tells Role.Work) → kept (loom_told H.Host self.new).heap (is_root (loom_told H.Host self.new)) ≡ (loom_told H.Host self.new).heap) }
-        ensures set { OnOk result (is_thinned self.new ≡ true) }
-        ensures ledger { OnOk result (self.new.ledger ≡ record self.old.ledger { held = self.new.ledger.held }) }
-        ensures less { OnOk result (self.new.ledger.held ≤ self.old.ledger.held) }
-        ensures pins { OnOk result (loom_pins self.new ≡ loom_pins self.old) }
-        ensures regs { OnOk result (self.new.regs ≡ self.old.regs) }
-        ensures calm { OnOk result (IsCalm (loom_pins self.old) (loom_core self.old) (loom_core self.new)) }
+        requires fit { MayCall (IsSound H.Host) (loom_told H.Host) self.old }
+        ensures frees { OnOk result (Frees H.Host self.old self.new) }
+        ensures swept { OnOk result (HasSwept H.Host self.old self.new) }
         ensures soon { OnOk result (self.new.due ≤ self.new.ledger.next + entries_of (loom_parts self.new).names.table / 8) }
         ensures buf { self.new.buf ≡ self.old.buf }
-        ensures access { IfErr result (λ f. (a : Access) → IsSilent a → makes a ≡ 0 → IsRefused (loom_told H.Host self.old) (loom_told H.Host self.new) a f) }
-        ensures limit { OnOk result (disk_room (loom_rest self.new) ≡ disk_room (loom_rest self.old)) }
-        ensures fetches { fetched self.new ≡ fetched self.old }
-        ensures bodies { OnOk result (IsTrue (H.tells Role.Work) → KeepsHeld (loom_core self.old) (loom_core self.new) (loom_told H.Host self.new).heap) }
-        ensures entries { OnOk result (spare_of (loom_parts self.old) ≤ spare_of (loom_parts self.new)) }
-        ensures words { OnOk result (free_of (loom_parts self.old).segment ≤ free_of (loom_parts self.new).segment) }
-        ensures minds { OnOk result (MindsCache H.Host None self.old self.new (λ k. ⊥)) }
-        ensures sound { KeepsSound result (IsSound H.Host self.new) }
-        ensures making { IfErr result (IsRefusedMaking (loom_told H.Host self.old) (loom_told H.Host self.new)) }
-        ensures settling { IfErr result (IsRefusedCall (loom_told H.Host self.old) (loom_told H.Host self.new) Settles) }
-        ensures purging { IfErr result (λ f. Called {A = Unit {0}} (loom_told H.Host self.old) (loom_told H.Host self.new) Thins (Err f)) }
-        ensures fault { IfErr result IsLost }
-        ensures lender { loom_lender self.new ≡ loom_lender self.old }
-        ensures outside { loom_outside H.Host self.new ≡ loom_outside H.Host self.old }
+        ensures faulted { IfErr result (IsFaulted (loom_told H.Host self.old) (loom_told H.Host self.new)) }
+        ensures leaves { Leaves H.Host self.old self.new result }
     {
         let before = self.pager.levels.parts.names.table.free();
         match self.pager.drain() {
@@ -149,34 +131,16 @@ impl<'h, H: Host> LoomMemory<'h, H> {
     // What is dead goes before anything living: dead objects are freed where so many words and entries aren't free, unless nothing can be dead, or
     // few were found a short while ago.
     pub(crate) fn free_first(&mut self, words: u32, entries: u16) -> Result<(), MemFault>
-        requires sound { IsSound H.Host self.old }
-        requires ready { IsReady (loom_told H.Host self.old) }
-        ensures thinned { OnOk result (HasThinned (loom_told H.Host self.old) (loom_told H.Host self.new)) }
+        requires fit { MayCall (IsSound H.Host) (loom_told H.Host) self.old }
+        ensures frees { OnOk result (Frees H.Host self.old self.new) }
         ensures roomy { OnOk result (HasRoom (loom_parts self.old) words entries → self.new ≡ self.old) }
         ensures gone { OnOk result (IsFreed H.Host self.old self.new words entries) }
-        ensures pins { OnOk result (loom_pins self.new ≡ loom_pins self.old) }
-        ensures regs { OnOk result (self.new.regs ≡ self.old.regs) }
-        ensures calm { OnOk result (IsCalm (loom_pins self.old) (loom_core self.old) (loom_core self.new)) }
         ensures buf { self.new.buf ≡ self.old.buf }
-        ensures access { IfErr result (λ f. (a : Access) → IsSilent a → makes a ≡ 0 → IsRefused (loom_told H.Host self.old) (loom_told H.Host self.new) a f) }
-        ensures ledger { OnOk result (self.new.ledger ≡ record self.old.ledger { held = self.new.ledger.held }) }
-        ensures less { OnOk result (self.new.ledger.held ≤ self.old.ledger.held) }
-        ensures limit { OnOk result (disk_room (loom_rest self.new) ≡ disk_room (loom_rest self.old)) }
-        ensures fetches { fetched self.new ≡ fetched self.old }
-        ensures bodies { OnOk result (IsTrue (H.tells Role.Work) → KeepsHeld (loom_core self.old) (loom_core self.new) (loom_told H.Host self.new).heap) }
-        ensures entries { OnOk result (spare_of (loom_parts self.old) ≤ spare_of (loom_parts self.new)) }
-        ensures words { OnOk result (free_of (loom_parts self.old).segment ≤ free_of (loom_parts self.new).segment) }
-        ensures minds { OnOk result (MindsCache H.Host None self.old self.new (λ k. ⊥)) }
-        ensures sound { KeepsSound result (IsSound H.Host self.new) }
+        ensures faulted { IfErr result (IsFaulted (loom_told H.Host self.old) (loom_told H.Host self.new)) }
+        ensures leaves { Leaves H.Host self.old self.new result }
         ensures sure { IfErr result (λ f. HasRoom (loom_parts self.old) words entries → ⊥) }
-        ensures making { IfErr result (IsRefusedMaking (loom_told H.Host self.old) (loom_told H.Host self.new)) }
-        ensures settling { IfErr result (IsRefusedCall (loom_told H.Host self.old) (loom_told H.Host self.new) Settles) }
-        ensures fault { IfErr result IsLost }
-        ensures due { OnOk result (IsOnTime H.Host self.old self.new) }
         ensures lasts { self.old.thinned ≡ true → self.new ≡ self.old }
         ensures still { OnOk result (IsAlive (loom_told H.Host self.old) → IsAlive (loom_told H.Host self.new)) }
-        ensures lender { loom_lender self.new ≡ loom_lender self.old }
-        ensures outside { loom_outside H.Host self.new ≡ loom_outside H.Host self.old }
     {
         if has_room(&self.pager.levels.parts, words, entries) {
             return Ok(());
@@ -208,24 +172,14 @@ impl<'h, H: Host> LoomMemory<'h, H> {
 
     // Where there is room for eight more: dead objects are freed where too few entries are free, and makings are counted anew.
     fn settle_roomy(&mut self) -> Result<(), MemFault>
-        requires sound { IsSound H.Host self.old }
-        requires ready { IsReady (loom_told H.Host self.old) }
+        requires fit { MayCall (IsSound H.Host) (loom_told H.Host) self.old }
         requires room { self.old.ledger.held + MAKINGS ≤ disk_room (loom_rest self.old) }
-        ensures settled { OnOk result (HasSettled (loom_told H.Host self.old) (loom_told H.Host self.new)) }
-        ensures none { OnOk result (self.new.ledger.made ≡ 0) }
+        ensures settles { OnOk result (CountsAnew H.Host self.old self.new) }
         ensures base { OnOk result (self.new.ledger.base ≡ None) }
-        ensures fetches { fetched self.new ≡ fetched self.old }
-        ensures bodies { OnOk result (IsTrue (H.tells Role.Work) → KeepsHeld (loom_core self.old) (loom_core self.new) (loom_told H.Host self.new).heap) }
-        ensures entries { OnOk result (spare_of (loom_parts self.old) ≤ spare_of (loom_parts self.new)) }
+        ensures leaves { Leaves H.Host self.old self.new result }
         ensures gone { OnOk result (IsFreed H.Host self.old self.new 0 SETTLED) }
-        ensures minds { OnOk result (MindsCache H.Host None self.old self.new (λ k. ⊥)) }
         ensures rests { SETTLED ≤ spare_of (loom_parts self.old) → HasRested self.old self.new result }
-        ensures sound { KeepsSound result (IsSound H.Host self.new) }
         ensures err { IfErr result (IsRefusedCall (loom_told H.Host self.old) (loom_told H.Host self.new) Settles) }
-        ensures due { OnOk result (IsOnTime H.Host self.old self.new) }
-        ensures flag { OnOk result (KeepsThinned self.old self.new) }
-        ensures lender { loom_lender self.new ≡ loom_lender self.old }
-        ensures outside { loom_outside H.Host self.new ≡ loom_outside H.Host self.old }
     {
         match self.free_first(0, RESERVE) {
             Ok(()) => {
@@ -238,26 +192,16 @@ impl<'h, H: Host> LoomMemory<'h, H> {
 
     // Where there is no room for eight more, dead objects are freed, and what is held is counted.
     fn settle_disk(&mut self) -> Result<(), MemFault>
-        requires sound { IsSound H.Host self.old }
-        requires ready { IsReady (loom_told H.Host self.old) }
-        ensures settled { OnOk result (HasSettled (loom_told H.Host self.old) (loom_told H.Host self.new)) }
-        ensures none { OnOk result (self.new.ledger.made ≡ 0) }
+        requires fit { MayCall (IsSound H.Host) (loom_told H.Host) self.old }
+        ensures settles { OnOk result (CountsAnew H.Host self.old self.new) }
         ensures room { self.old.ledger.held + MAKINGS ≤ disk_room (loom_rest self.old) → OnOk result ((self.new.ledger.base ≡ None) × (SETTLED ≤ spare_of (loom_parts self.old) → self.new.ledger.held ≡ self.old.ledger.held)) }
         ensures full { disk_room (loom_rest self.old) < self.old.ledger.held + MAKINGS → OnOk result (self.new.ledger.base ≡ Some self.new.ledger.held) }
         ensures thins { disk_room (loom_rest self.old) < self.old.ledger.held + MAKINGS → OnOk result (is_thinned self.new ≡ true) }
         ensures lasts { disk_room (loom_rest self.old) < self.old.ledger.held + MAKINGS → is_thinned self.old ≡ true → HasLasted self.old self.new result }
-        ensures fetches { fetched self.new ≡ fetched self.old }
-        ensures bodies { OnOk result (IsTrue (H.tells Role.Work) → KeepsHeld (loom_core self.old) (loom_core self.new) (loom_told H.Host self.new).heap) }
-        ensures entries { OnOk result (spare_of (loom_parts self.old) ≤ spare_of (loom_parts self.new)) }
+        ensures leaves { Leaves H.Host self.old self.new result }
         ensures gone { self.old.ledger.held + MAKINGS ≤ disk_room (loom_rest self.old) → OnOk result (IsFreed H.Host self.old self.new 0 SETTLED) }
-        ensures minds { OnOk result (IsTrue (H.tells Role.Work) → MindsCache H.Host None self.old self.new (λ k. ⊥)) }
         ensures rests { self.old.ledger.held + MAKINGS ≤ disk_room (loom_rest self.old) → SETTLED ≤ spare_of (loom_parts self.old) → HasRested self.old self.new result }
-        ensures sound { KeepsSound result (IsSound H.Host self.new) }
         ensures err { IfErr result (IsRefusedCall (loom_told H.Host self.old) (loom_told H.Host self.new) Settles) }
-        ensures due { OnOk result (IsOnTime H.Host self.old self.new) }
-        ensures flag { OnOk result (KeepsThinned self.old self.new) }
-        ensures lender { loom_lender self.new ≡ loom_lender self.old }
-        ensures outside { loom_outside H.Host self.new ≡ loom_outside H.Host self.old }
     {
         let room = self.pager.levels.disk.room();
         if self.ledger.held + MAKINGS_BEFORE_FREEING <= room {
@@ -275,36 +219,20 @@ impl<'h, H: Host> LoomMemory<'h, H> {
 
     // Frees entries. That fewer can be had is no refusal.
     fn spare_entries(&mut self) -> Result<(), MemFault>
-        requires sound { IsSound H.Host self.old }
-        requires ready { IsReady (loom_told H.Host self.old) }
-        ensures quiet { OnOk result (IsQuiet (loom_told H.Host self.old) (loom_told H.Host self.new)) }
-        ensures ledger { OnOk result (self.new.ledger ≡ self.old.ledger) }
+        requires fit { MayCall (IsSound H.Host) (loom_told H.Host) self.old }
+        ensures pages { OnOk result (Pages H.Host self.old self.new) }
         ensures spare { OnOk result ((SETTLED ≤ spare_of (loom_parts self.new)) ⊎ IsBare (loom_pins self.new).a (loom_pins self.new).b (loom_pins self.new).d (loom_core self.new)) }
         ensures stays { OnOk result (SETTLED ≤ spare_of (loom_parts self.old) → self.new ≡ self.old) }
         ensures sure { IfErr result (λ f. SETTLED ≤ spare_of (loom_parts self.old) → ⊥) }
-        ensures fetches { fetched self.new ≡ fetched self.old }
-        ensures thinned { is_thinned self.new ≡ is_thinned self.old }
-        ensures minds { OnOk result (MindsCache H.Host None self.old self.new (λ k. ⊥)) }
-        ensures sound { KeepsSound result (IsSound H.Host self.new) }
-        ensures err { IfErr result (IsRefusedCall (loom_told H.Host self.old) (loom_told H.Host self.new) Settles) }
-        ensures fault { IfErr result IsLost }
-        ensures due { OnOk result (self.new.due ≡ self.old.due) }
-        ensures flag { OnOk result (self.new.thinned ≡ self.old.thinned) }
-        ensures lender { loom_lender self.new ≡ loom_lender self.old }
-        ensures outside { loom_outside H.Host self.new ≡ loom_outside H.Host self.old }
+        ensures leaves { Leaves H.Host self.old self.new result }
+        ensures faulted { IfErr result (IsFaulted (loom_told H.Host self.old) (loom_told H.Host self.new)) }
     {
         if has_room(&self.pager.levels.parts, 0, RESERVE) {
             return Ok(());
         }
-        match self.room(0, RESERVE) {
-            Ok(()) => Ok(()),
-            Err(f) => match f {
-                RoomFault::Short => Ok(()),
-                RoomFault::Disk(f) => {
-                    let f = refusal_of(f);
-                    Err(self.refuse(f))
-                }
-            },
+        match self.page(0, RESERVE) {
+            Ok(_enough) => Ok(()),
+            Err(f) => Err(f),
         }
     }
 
@@ -326,7 +254,7 @@ impl<'h, H: Host> LoomMemory<'h, H> {
     fn settle_slowly(&mut self) -> Result<(), MemFault>
         requires fit { MayCall (IsSound H.Host) (loom_told H.Host) self.old }
         ensures called { Called (loom_told H.Host self.old) (loom_told H.Host self.new) Settles result }
-        ensures none { OnOk result (self.new.ledger.made ≡ 0) }
+        ensures ended { OnOk result (HasEnded H.Host self.old self.new) }
         ensures room { self.old.ledger.held + MAKINGS ≤ disk_room (loom_rest self.old) → OnOk result ((self.new.ledger.base ≡ None) × (SETTLED ≤ spare_of (loom_parts self.old) → self.new.ledger.held ≡ self.old.ledger.held)) }
         ensures full { disk_room (loom_rest self.old) < self.old.ledger.held + MAKINGS → OnOk result (self.new.ledger.base ≡ Some self.new.ledger.held) }
         ensures thins { disk_room (loom_rest self.old) < self.old.ledger.held + MAKINGS → OnOk result (is_thinned self.new ≡ true) }
@@ -336,9 +264,6 @@ impl<'h, H: Host> LoomMemory<'h, H> {
         ensures stays { OnOk result (SETTLED ≤ spare_of (loom_parts self.old) → IsTrue (H.tells Role.Work) → (k : ℕ) → IsTrue (is_resident self.old k) → Has (loom_told H.Host self.new).heap k → IsTrue (is_resident self.new k)) }
         ensures whole { self.old.ledger.held + MAKINGS ≤ disk_room (loom_rest self.old) → SETTLED ≤ spare_of (loom_parts self.old) → OnOk result ((loom_told H.Host self.new).heap ≡ (loom_told H.Host self.old).heap) }
         ensures gone { self.old.ledger.held + MAKINGS ≤ disk_room (loom_rest self.old) → OnOk result (IsFreed H.Host self.old self.new 0 SETTLED) }
-        ensures minds { OnOk result (IsTrue (H.tells Role.Work) → MindsCache H.Host None self.old self.new (λ k. ⊥)) }
-        ensures due { OnOk result (IsOnTime H.Host self.old self.new) }
-        ensures flag { OnOk result (KeepsThinned self.old self.new) }
         ensures fit { StaysCallable (IsSound H.Host) (loom_told H.Host) loom_lender (loom_outside H.Host) self.old self.new result }
     {
         match self.settle_disk() {
@@ -357,7 +282,7 @@ impl<'h, H: Host> LoomMemory<'h, H> {
     pub fn settle(&mut self) -> Result<(), MemFault>
         requires fit { MayCall (IsSound H.Host) (loom_told H.Host) self.old }
         ensures called { Called (loom_told H.Host self.old) (loom_told H.Host self.new) Settles result }
-        ensures none { OnOk result (self.new.ledger.made ≡ 0) }
+        ensures ended { OnOk result (HasEnded H.Host self.old self.new) }
         ensures room { self.old.ledger.held + MAKINGS ≤ disk_room (loom_rest self.old) → OnOk result ((self.new.ledger.base ≡ None) × (SETTLED ≤ spare_of (loom_parts self.old) → self.new.ledger.held ≡ self.old.ledger.held)) }
         ensures full { disk_room (loom_rest self.old) < self.old.ledger.held + MAKINGS → OnOk result (self.new.ledger.base ≡ Some self.new.ledger.held) }
         ensures thins { disk_room (loom_rest self.old) < self.old.ledger.held + MAKINGS → OnOk result (is_thinned self.new ≡ true) }
@@ -365,14 +290,9 @@ impl<'h, H: Host> LoomMemory<'h, H> {
         ensures spare { OnOk result ((SETTLED ≤ spare_of (loom_parts self.new)) ⊎ IsBare (loom_pins self.new).a (loom_pins self.new).b (loom_pins self.new).d (loom_core self.new)) }
         ensures fetches { fetched self.new ≡ fetched self.old }
         ensures stays { OnOk result (SETTLED ≤ spare_of (loom_parts self.old) → IsTrue (H.tells Role.Work) → (k : ℕ) → IsTrue (is_resident self.old k) → Has (loom_told H.Host self.new).heap k → IsTrue (is_resident self.new k)) }
-        ensures whole { self.old.ledger.held + MAKINGS ≤ disk_room (loom_rest self.old) → SETTLED ≤ spare_of (loom_parts self.old) → OnOk result ((loom_told H.Host self.new).heap ≡ (loom_told H.Host self.old).heap) }
-        ensures idle { self.old.ledger.held + MAKINGS ≤ disk_room (loom_rest self.old) → SETTLED ≤ spare_of (loom_parts self.old) → OnOk result (IsIdle self.old self.new) }
-        ensures cached { self.old.ledger.held + MAKINGS ≤ disk_room (loom_rest self.old) → SETTLED ≤ spare_of (loom_parts self.old) → OnOk result (KeepsCache H.Host self.old self.new) }
+        ensures untouched { self.old.ledger.held + MAKINGS ≤ disk_room (loom_rest self.old) → SETTLED ≤ spare_of (loom_parts self.old) → OnOk result (IsUntouched H.Host self.old self.new) }
         ensures gone { self.old.ledger.held + MAKINGS ≤ disk_room (loom_rest self.old) → OnOk result (IsFreed H.Host self.old self.new 0 SETTLED) }
-        ensures minds { OnOk result (IsTrue (H.tells Role.Work) → MindsCache H.Host None self.old self.new (λ k. ⊥)) }
         ensures rests { self.old.ledger.held + MAKINGS ≤ disk_room (loom_rest self.old) → SETTLED ≤ spare_of (loom_parts self.old) → HasRested self.old self.new result }
-        ensures due { OnOk result (IsOnTime H.Host self.old self.new) }
-        ensures flag { OnOk result (KeepsThinned self.old self.new) }
         ensures fit { StaysCallable (IsSound H.Host) (loom_told H.Host) loom_lender (loom_outside H.Host) self.old self.new result }
     {
         if self.is_settled() {

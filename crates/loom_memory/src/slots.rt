@@ -36,10 +36,12 @@ fn put_pin(pins: &mut Pinned, slot: u8, w: u16)
 }
 
 impl<'h, H: Host> LoomMemory<'h, H> {
+    ghost use Rattle.loom_memory.specs.Effects.{LeavesBeside, Puts};
+    ghost use Rattle.object_memory.specs.Fit.{KeepsCallable, MayCall, StaysCallable};
+    ghost use Rattle.std.specs.Prelude.{Ok};
     ghost use Rattle.long_names.specs.State.{name_at, set_slot};
     ghost use Rattle.long_names.specs.Access.{Pin, Nothing};
     ghost use Rattle.object_memory.specs.Contract.{Accessed, MayDo};
-    ghost use Rattle.object_memory.specs.Fit.{KeepsCallable, MayCall, StaysCallable};
     ghost use Rattle.loom_memory.specs.Memory.{loom_told, loom_outside, loom_lender, name_if, loom_core, loom_pins, IsPinned, IsSound};
     ghost use Rattle.loom_memory.specs.Gentle.{IsSteady};
     ghost use Rattle.loom_memory.specs.Thinned.{StaysThinned};
@@ -55,12 +57,10 @@ impl<'h, H: Host> LoomMemory<'h, H> {
         requires slot { slot < 3 }
         requires body { IsPinned (loom_core self.old) w }
         ensures told { loom_told H.Host self.new ≡ record (loom_told H.Host self.old) { slots = set_slot (loom_told H.Host self.old).slots slot (name_if (loom_core self.old).entries w) } }
-        ensures sound { IsSound H.Host self.new }
+        ensures leaves { LeavesBeside H.Host self.old self.new (Ok result) }
         ensures steady { IsSteady H.Host self.old self.new }
         ensures due { self.new.due ≡ self.old.due }
         ensures stays { StaysThinned self.old self.new (pin_in (loom_pins self.old) slot) }
-        ensures lender { loom_lender self.new ≡ loom_lender self.old }
-        ensures outside { loom_outside H.Host self.new ≡ loom_outside H.Host self.old }
     {
         let old = pin_at(&self.pager.pinned, slot);
         put_pin(&mut self.pager.pinned, slot, w);

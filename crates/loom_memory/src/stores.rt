@@ -87,12 +87,15 @@ fn lower_word(p: &mut Parts, w: u16)
 }
 
 impl<'h, H: Host> LoomMemory<'h, H> {
+    ghost use Rattle.loom_memory.specs.Effects.{IsOpen, Leaves, LeavesBeside};
+    ghost use Rattle.object_memory.specs.Fit.{MayCall, StaysCallable};
+    ghost use Rattle.std.specs.Prelude.{Ok};
     ghost use Rattle.long_names.specs.Access.{Access, Field, SetField, SetWord, SetByte, WriteWords, CanDo, Nothing, brought, target_of};
     ghost use Rattle.long_names.specs.State.{IsRef};
     ghost use Rattle.object_memory.specs.Told.{IsReady};
     ghost use Rattle.object_memory.specs.Contract.{Accessed, Does, HasCore, IfBounds, KeepsSound, MayDo, makes};
-    ghost use Rattle.object_memory.specs.Fit.{MayCall, StaysCallable};
-    ghost use Rattle.loom_memory.specs.Memory.{loom_told, loom_outside, loom_lender, word_in, loom_core, loom_parts, loom_rest, IsSound, IsQuiet, IsSilent, IsRefused};
+    ghost use Rattle.loom_memory.specs.Memory.{loom_told, loom_outside, loom_lender, word_in, loom_core, loom_parts, loom_rest, IsSound, IsSilent, IsRefused};
+    ghost use Rattle.loom_memory.specs.Gentle.{IsQuiet};
     ghost use Rattle.loom_memory.specs.Stores.{IsStored};
     ghost use Rattle.long_names.specs.State.{name_at};
     ghost use Rattle.loom_memory.specs.Damage.{IsDamageOf, IsDamaged};
@@ -102,7 +105,8 @@ impl<'h, H: Host> LoomMemory<'h, H> {
     ghost use Rattle.purger.specs.Purge.{HasRoom};
     ghost use Rattle.loom_memory.specs.Gentle.{IsGlance, IsResting, Remains};
     ghost use Rattle.loom_memory.specs.Makings.{HasThinned};
-    ghost use Rattle.loom_memory.specs.Own.{BringsOne, HasPlace, HasSpace, IsAtHand, IsSearchedChange, IsSparingChange, IsUnmarked, KeepsCache, MindsCache};
+    ghost use Rattle.loom_memory.specs.Own.{BringsOne, HasPlace, HasSpace, IsAtHand, IsSearchedChange, IsSparingChange, IsUnmarked, MindsCache};
+    ghost use Rattle.loom_memory.specs.Gentle.{KeepsCache};
 
     // Before an object is stored into: all marks go where it is marked.
     #[inline(always)]
@@ -110,7 +114,7 @@ impl<'h, H: Host> LoomMemory<'h, H> {
         requires sound { IsSound H.Host self.old }
         requires used { is_used ((loom_core self.old).entries s.0).state ≡ true }
         ensures quiet { IsQuiet (loom_told H.Host self.old) (loom_told H.Host self.new) }
-        ensures sound { IsSound H.Host self.new }
+        ensures leaves { LeavesBeside H.Host self.old self.new (Ok result) }
         ensures regs { self.new.regs ≡ self.old.regs }
         ensures gone { ((loom_core self.new).entries s.0).flags.marked ≡ false }
         ensures place { place_of ((loom_core self.new).entries s.0).state ≡ place_of ((loom_core self.old).entries s.0).state }
@@ -121,8 +125,6 @@ impl<'h, H: Host> LoomMemory<'h, H> {
         ensures spare { spare_of (loom_parts self.new) ≡ spare_of (loom_parts self.old) }
         ensures due { self.new.due ≡ self.old.due }
         ensures flag { self.new.thinned ≡ self.old.thinned }
-        ensures lender { loom_lender self.new ≡ loom_lender self.old }
-        ensures outside { loom_outside H.Host self.new ≡ loom_outside H.Host self.old }
     {
         let levels = &mut self.pager.levels;
         unmark_for(&mut levels.parts, s);
@@ -131,25 +133,19 @@ impl<'h, H: Host> LoomMemory<'h, H> {
     // Brings the object of a register into the core, to be stored into: it isn't marked then.
     #[inline(always)]
     fn open(&mut self, of: Reg) -> Result<Short, MemFault>
-        requires sound { IsSound H.Host self.old }
-        requires ready { IsReady (loom_told H.Host self.old) }
+        requires fit { MayCall (IsSound H.Host) (loom_told H.Host) self.old }
         requires name { IsRef ((loom_told H.Host self.old).regs of) }
         ensures thinned { OnOk result (HasThinned (loom_told H.Host self.old) (loom_told H.Host self.new)) }
-        ensures sound { KeepsSound result (IsSound H.Host self.new) }
-        ensures word { IfOk result (λ s. s.0 ≡ word_in self.new.regs of) }
-        ensures there { IfOk result (λ s. (at : ℕ) × (place_of ((loom_core self.new).entries s.0).state ≡ Some at)) }
-        ensures gone { IfOk result (λ s. ((loom_core self.new).entries s.0).flags.marked ≡ false) }
+        ensures leaves { LeavesBeside H.Host self.old self.new result }
+        ensures opened { IfOk result (λ s. IsOpen (loom_told H.Host self.old) self.new of s.0) }
         ensures own { IsSparingChange H.Host self.old self.new (name_at ((loom_told H.Host self.old).regs of)) result }
         ensures cached { OnOk result (HasPlace H.Host self.old (name_at ((loom_told H.Host self.old).regs of)) → IsUnmarked H.Host self.old (name_at ((loom_told H.Host self.old).regs of)) → KeepsCache H.Host self.old self.new) }
         ensures minds { OnOk result (MindsCache H.Host None self.old self.new (λ k. k ≡ name_at ((loom_told H.Host self.old).regs of))) }
         ensures freed { OnOk result (IsFreedFor H.Host self.old self.new (name_at ((loom_told H.Host self.old).regs of))) }
         ensures damage { IsDamaged self.old self.new (name_at ((loom_told H.Host self.old).regs of)) result }
-        ensures core { OnOk result ((a : Access) → target_of a ≡ Some of → makes a ≡ 0 → IfBounds (loom_told H.Host self.old).bounds (HasCore (loom_told H.Host self.old) a)) }
         ensures err { IfErr result (λ f. (a : Access) → target_of a ≡ Some of → makes a ≡ 0 → IsSilent a → IsRefused (loom_told H.Host self.old) (loom_told H.Host self.new) a f) }
         ensures brings { BringsOne self.old self.new (is_resident self.old (name_at ((loom_told H.Host self.old).regs of)) ≡ false) }
         ensures regs { OnOk result (self.new.regs ≡ self.old.regs) }
-        ensures lender { loom_lender self.new ≡ loom_lender self.old }
-        ensures outside { loom_outside H.Host self.new ≡ loom_outside H.Host self.old }
     {
         match self.load(of) {
             Ok(s) => {
@@ -162,27 +158,21 @@ impl<'h, H: Host> LoomMemory<'h, H> {
 
     // The same, and 26 entries are free then.
     fn open_with_room(&mut self, of: Reg) -> Result<Short, MemFault>
-        requires sound { IsSound H.Host self.old }
-        requires ready { IsReady (loom_told H.Host self.old) }
+        requires fit { MayCall (IsSound H.Host) (loom_told H.Host) self.old }
         requires name { IsRef ((loom_told H.Host self.old).regs of) }
         ensures thinned { OnOk result (HasThinned (loom_told H.Host self.old) (loom_told H.Host self.new)) }
-        ensures sound { KeepsSound result (IsSound H.Host self.new) }
-        ensures word { IfOk result (λ s. s.0 ≡ word_in self.new.regs of) }
-        ensures there { IfOk result (λ s. (at : ℕ) × (place_of ((loom_core self.new).entries s.0).state ≡ Some at)) }
-        ensures gone { IfOk result (λ s. ((loom_core self.new).entries s.0).flags.marked ≡ false) }
+        ensures leaves { LeavesBeside H.Host self.old self.new result }
+        ensures opened { IfOk result (λ s. IsOpen (loom_told H.Host self.old) self.new of s.0) }
         ensures spare { OnOk result (SPARE_BEHIND_CLASS ≤ spare_of (loom_parts self.new)) }
         ensures searched { OnOk result (IsSearchedChange H.Host self.old self.new (name_at ((loom_told H.Host self.old).regs of))) }
         ensures cached { OnOk result (HasSpace H.Host self.old (name_at ((loom_told H.Host self.old).regs of)) → IsUnmarked H.Host self.old (name_at ((loom_told H.Host self.old).regs of)) → KeepsCache H.Host self.old self.new) }
         ensures minds { OnOk result (MindsCache H.Host None self.old self.new (λ k. k ≡ name_at ((loom_told H.Host self.old).regs of))) }
         ensures freed { OnOk result (IsFreedFor H.Host self.old self.new (name_at ((loom_told H.Host self.old).regs of))) }
         ensures damage { IsDamaged self.old self.new (name_at ((loom_told H.Host self.old).regs of)) result }
-        ensures core { OnOk result ((a : Access) → target_of a ≡ Some of → makes a ≡ 0 → IfBounds (loom_told H.Host self.old).bounds (HasCore (loom_told H.Host self.old) a)) }
         ensures err { IfErr result (λ f. (a : Access) → target_of a ≡ Some of → makes a ≡ 0 → IsSilent a → IsRefused (loom_told H.Host self.old) (loom_told H.Host self.new) a f) }
         ensures brings { BringsOne self.old self.new ((is_resident self.old (name_at ((loom_told H.Host self.old).regs of)) ≡ false) ⊎ (HasRoom (loom_parts self.old) 0 SPARE → ⊥)) }
         ensures entries { OnOk result (IsFreed H.Host self.old self.new 0 SPARE) }
         ensures regs { OnOk result (self.new.regs ≡ self.old.regs) }
-        ensures lender { loom_lender self.new ≡ loom_lender self.old }
-        ensures outside { loom_outside H.Host self.new ≡ loom_outside H.Host self.old }
     {
         match self.load_with_room(of) {
             Ok(s) => {
@@ -204,14 +194,12 @@ impl<'h, H: Host> LoomMemory<'h, H> {
         requires used { is_short old ≡ true → is_used ((loom_core self.old).entries old).state ≡ true }
         requires before { IsTrue (H.tells Role.Work) → brought (loom_told H.Host self.old).heap (loom_told H.Host self.old).regs (Field 0 of i) ≡ Some (meant (loom_core self.old).entries [] 0 old) }
         ensures stored { IsStored (loom_told H.Host self.old) (loom_told H.Host self.new) (SetField of i from) }
-        ensures sound { IsSound H.Host self.new }
+        ensures leaves { LeavesBeside H.Host self.old self.new (Ok result) }
         ensures resting { IsResting self.old self.new }
         ensures none { Remains (loom_core self.new) (loom_core self.old) }
         ensures cached { KeepsCache H.Host self.old self.new }
         ensures due { self.new.due ≡ self.old.due }
         ensures stays { StaysThinned self.old self.new old }
-        ensures lender { loom_lender self.new ≡ loom_lender self.old }
-        ensures outside { loom_outside H.Host self.new ≡ loom_outside H.Host self.old }
     {
         let w = self.regs[from.index()];
         let levels = &mut self.pager.levels;
@@ -223,24 +211,20 @@ impl<'h, H: Host> LoomMemory<'h, H> {
 
     // Stores the value of a register into field i of an object in the core, whatever was there. What a lambda meant is read from the record.
     fn store_field(&mut self, of: Reg, s: Short, i: u32, from: Reg) -> Result<(), MemFault>
-        requires sound { IsSound H.Host self.old }
-        requires ready { IsReady (loom_told H.Host self.old) }
+        requires fit { MayCall (IsSound H.Host) (loom_told H.Host) self.old }
         requires may { IsTrue (H.tells Role.Work) → CanDo (loom_told H.Host self.old).heap (loom_told H.Host self.old).regs (SetField of i from) }
         requires word { s.0 ≡ word_in self.old.regs of }
         requires there { (at : ℕ) × (place_of ((loom_core self.old).entries s.0).state ≡ Some at) }
         requires gone { ((loom_core self.old).entries s.0).flags.marked ≡ false }
         requires spare { SPARE_BEHIND_CLASS ≤ spare_of (loom_parts self.old) }
         ensures stored { OnOk result (IsStored (loom_told H.Host self.old) (loom_told H.Host self.new) (SetField of i from)) }
-        ensures sound { KeepsSound result (IsSound H.Host self.new) }
+        ensures leaves { Leaves H.Host self.old self.new result }
         ensures glance { OnOk result (IsGlance H.Host self.old self.new) }
         ensures none { OnOk result (Remains (loom_core self.new) (loom_core self.old)) }
         ensures cached { OnOk result (KeepsCache H.Host self.old self.new) }
         ensures damage { IfErr result (IsDamageOf (loom_rest self.new) ((loom_core self.old).entries s.0).name) }
         ensures err { IfErr result (IsRefused (loom_told H.Host self.old) (loom_told H.Host self.new) (SetField of i from)) }
-        ensures brings { fetched self.new ≡ fetched self.old }
         ensures due { OnOk result (self.new.due ≡ self.old.due) }
-        ensures lender { loom_lender self.new ≡ loom_lender self.old }
-        ensures outside { loom_outside H.Host self.new ≡ loom_outside H.Host self.old }
     {
         let at = place_of_body(&self.pager.levels.parts, s);
         if i >= field_total(&self.pager.levels.parts, s, at) {
@@ -271,14 +255,12 @@ impl<'h, H: Host> LoomMemory<'h, H> {
         requires word { s.0 ≡ word_in self.old.regs of }
         requires there { (at : ℕ) × IsAt (loom_core self.old) s.0 at i w × (w ≢ 0) }
         ensures stored { IsStored (loom_told H.Host self.old) (loom_told H.Host self.new) (SetField of i from) }
-        ensures sound { IsSound H.Host self.new }
+        ensures leaves { LeavesBeside H.Host self.old self.new (Ok result) }
         ensures resting { IsResting self.old self.new }
         ensures cached { ((loom_core self.old).entries s.0).flags.marked ≡ false → KeepsCache H.Host self.old self.new }
         ensures minds { MindsCache H.Host None self.old self.new (λ k. k ≡ ((loom_core self.old).entries s.0).name) }
         ensures due { self.new.due ≡ self.old.due }
         ensures stays { StaysThinned self.old self.new w }
-        ensures lender { loom_lender self.new ≡ loom_lender self.old }
-        ensures outside { loom_outside H.Host self.new ≡ loom_outside H.Host self.old }
     {
         self.unmark(s);
         if self.word_of(from) == w {
@@ -342,25 +324,21 @@ impl<'h, H: Host> LoomMemory<'h, H> {
     // Stores a run of words into an object in the core, from word at on.
     #[inline(always)]
     fn store_words(&mut self, of: Reg, s: Short, at: u32, run: &[u16]) -> Result<(), MemFault>
-        requires sound { IsSound H.Host self.old }
-        requires ready { IsReady (loom_told H.Host self.old) }
+        requires fit { MayCall (IsSound H.Host) (loom_told H.Host) self.old }
         requires may { IsTrue (H.tells Role.Work) → CanDo (loom_told H.Host self.old).heap (loom_told H.Host self.old).regs (WriteWords of at run.now) }
         requires word { s.0 ≡ word_in self.old.regs of }
         requires there { (at : ℕ) × (place_of ((loom_core self.old).entries s.0).state ≡ Some at) }
         requires gone { ((loom_core self.old).entries s.0).flags.marked ≡ false }
         ensures stored { OnOk result (IsStored (loom_told H.Host self.old) (loom_told H.Host self.new) (WriteWords of at run.now)) }
-        ensures sound { KeepsSound result (IsSound H.Host self.new) }
+        ensures leaves { Leaves H.Host self.old self.new result }
         ensures resting { OnOk result (IsResting self.old self.new) }
         ensures none { OnOk result (Remains (loom_core self.new) (loom_core self.old)) }
         ensures cached { OnOk result (KeepsCache H.Host self.old self.new) }
         ensures sure { IfErr result (λ f. IsTrue (H.tells Role.Work) → ⊥) }
         ensures damage { IfErr result (IsDamageOf (loom_rest self.new) ((loom_core self.old).entries s.0).name) }
         ensures err { IfErr result (λ f. (a : Access) → IsSilent a → makes a ≡ 0 → IsRefused (loom_told H.Host self.old) (loom_told H.Host self.new) a f) }
-        ensures brings { fetched self.new ≡ fetched self.old }
         ensures due { OnOk result (self.new.due ≡ self.old.due) }
         ensures flag { OnOk result (self.new.thinned ≡ self.old.thinned) }
-        ensures lender { loom_lender self.new ≡ loom_lender self.old }
-        ensures outside { loom_outside H.Host self.new ≡ loom_outside H.Host self.old }
     {
         let e = self.pager.levels.parts.names.table.used_entry(s);
         let fits = has_words(e.kind, e.len, at, run.len());
@@ -417,25 +395,21 @@ impl<'h, H: Host> LoomMemory<'h, H> {
 
     // Stores byte i of an object in the core, of code too.
     fn store_byte(&mut self, of: Reg, s: Short, i: u32, b: u8) -> Result<(), MemFault>
-        requires sound { IsSound H.Host self.old }
-        requires ready { IsReady (loom_told H.Host self.old) }
+        requires fit { MayCall (IsSound H.Host) (loom_told H.Host) self.old }
         requires may { IsTrue (H.tells Role.Work) → CanDo (loom_told H.Host self.old).heap (loom_told H.Host self.old).regs (SetByte of i b) }
         requires word { s.0 ≡ word_in self.old.regs of }
         requires there { (at : ℕ) × (place_of ((loom_core self.old).entries s.0).state ≡ Some at) }
         requires gone { ((loom_core self.old).entries s.0).flags.marked ≡ false }
         ensures stored { OnOk result (IsStored (loom_told H.Host self.old) (loom_told H.Host self.new) (SetByte of i b)) }
-        ensures sound { KeepsSound result (IsSound H.Host self.new) }
+        ensures leaves { Leaves H.Host self.old self.new result }
         ensures resting { OnOk result (IsResting self.old self.new) }
         ensures none { OnOk result (Remains (loom_core self.new) (loom_core self.old)) }
         ensures cached { OnOk result (KeepsCache H.Host self.old self.new) }
         ensures sure { IfErr result (λ f. IsTrue (H.tells Role.Work) → ⊥) }
         ensures damage { IfErr result (IsDamageOf (loom_rest self.new) ((loom_core self.old).entries s.0).name) }
         ensures err { IfErr result (IsRefused (loom_told H.Host self.old) (loom_told H.Host self.new) (SetByte of i b)) }
-        ensures brings { fetched self.new ≡ fetched self.old }
         ensures due { OnOk result (self.new.due ≡ self.old.due) }
         ensures flag { OnOk result (self.new.thinned ≡ self.old.thinned) }
-        ensures lender { loom_lender self.new ≡ loom_lender self.old }
-        ensures outside { loom_outside H.Host self.new ≡ loom_outside H.Host self.old }
     {
         let e = self.pager.levels.parts.names.table.used_entry(s);
         let fits = has_byte(e.kind, e.len, i);

@@ -47,6 +47,8 @@ pub(crate) fn note_gone(p: &Parts, thinned: &mut bool, w: u16)
 }
 
 impl<'h, H: Host> LoomMemory<'h, H> {
+    ghost use Rattle.loom_memory.specs.Effects.{Frees, HasSwept, IsFaulted, Leaves};
+    ghost use Rattle.object_memory.specs.Fit.{MayCall};
     ghost use Rattle.long_names.specs.Heap.{object_count};
     ghost use Rattle.long_names.specs.Kept.{kept};
     ghost use Rattle.object_memory.specs.Told.{IsReady, is_root};
@@ -70,25 +72,12 @@ impl<'h, H: Host> LoomMemory<'h, H> {
 
     // Frees dead objects until none is dead, and looks for none where none can be.
     pub(crate) fn thin_once(&mut self) -> Result<(), MemFault>
-        requires sound { IsSound H.Host self.old }
-        requires ready { IsReady (loom_told H.Host self.old) }
-        ensures thinned { OnOk result (HasThinned (loom_told H.Host self.old) (loom_told H.Host self.new)) }
-        ensures count { OnOk result (IsTrue (H.tells Role.Work) → object_count (loom_told H.Host self.new).heap ≡ self.new.ledger.held) }
-        ensures again { OnOk result (IsTrue (H.tells Role.Work) → kept (loom_told H.Host self.new).heap (is_root (loom_told H.Host self.new)) ≡ (loom_told H.Host self.new).heap) }
-        ensures set { OnOk result (is_thinned self.new ≡ true) }
+        requires fit { MayCall (IsSound H.Host) (loom_told H.Host) self.old }
+        ensures frees { OnOk result (Frees H.Host self.old self.new) }
+        ensures swept { OnOk result (HasSwept H.Host self.old self.new) }
         ensures lasts { is_thinned self.old ≡ true → (result ≡ Ok tt) × (self.new ≡ self.old) }
-        ensures ledger { OnOk result (self.new.ledger ≡ record self.old.ledger { held = self.new.ledger.held }) }
-        ensures less { OnOk result (self.new.ledger.held ≤ self.old.ledger.held) }
-        ensures limit { OnOk result (disk_room (loom_rest self.new) ≡ disk_room (loom_rest self.old)) }
-        ensures fetches { fetched self.new ≡ fetched self.old }
-        ensures bodies { OnOk result (IsTrue (H.tells Role.Work) → KeepsHeld (loom_core self.old) (loom_core self.new) (loom_told H.Host self.new).heap) }
-        ensures entries { OnOk result (spare_of (loom_parts self.old) ≤ spare_of (loom_parts self.new)) }
-        ensures words { OnOk result (free_of (loom_parts self.old).segment ≤ free_of (loom_parts self.new).segment) }
-        ensures minds { OnOk result (MindsCache H.Host None self.old self.new (λ k. ⊥)) }
-        ensures sound { KeepsSound result (IsSound H.Host self.new) }
-        ensures settling { IfErr result (IsRefusedCall (loom_told H.Host self.old) (loom_told H.Host self.new) Settles) }
-        ensures lender { loom_lender self.new ≡ loom_lender self.old }
-        ensures outside { loom_outside H.Host self.new ≡ loom_outside H.Host self.old }
+        ensures leaves { Leaves H.Host self.old self.new result }
+        ensures faulted { IfErr result (IsFaulted (loom_told H.Host self.old) (loom_told H.Host self.new)) }
     {
         if self.thinned {
             return Ok(());

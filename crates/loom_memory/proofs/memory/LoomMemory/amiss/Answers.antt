@@ -12,8 +12,13 @@ pub used_entry-name-requires : goal.used_entry-name-requires
 unfolding core_of
 used_entry-name-requires g c = c.requires.used
 
-pub returns-clause-sound : goal.returns-clause-sound
-returns-clause-sound g c = subst (λ (f : MemFault). LeavesAll f (IsSound g.H.Host c.wrong.new.self)) (sym c.wrong.ensures.is) tt
+pub returns-clause-leaves : goal.returns-clause-leaves
+returns-clause-leaves g c = record {
+  sound = subst (λ (f : MemFault). LeavesAll f (IsSound g.H.Host c.wrong.new.self)) (sym c.wrong.ensures.is) tt;
+  fetches = c.wrong.ensures.brings;
+  lender = c.wrong.ensures.lender;
+  outside = c.wrong.ensures.outside;
+}
 
 pub returns-clause-is : goal.returns-clause-is
 unfolding core_of

@@ -7,13 +7,19 @@ use Rattle.loom_memory.specs.Memory.{loom_told}
 use Rattle.loom_memory.proofs.SettleLaws.{bodies-same}
 use Rattle.loom_memory.proofs.SparedLaws.{err-each, spared-never}
 use Rattle.loom_memory.proofs.MindLaws.{minds-refl}
+use Rattle.loom_memory.proofs.BringLaws.{quiet-same}
+use Rattle.loom_memory.proofs.MakingLaws.{quiet-thinned}
 use Rattle.loom_memory.proofs.memory.LoomMemory.ask_room.Goals as goal
 
-pub returns-then-self-room-clause-bodies : goal.returns-then-self-room-clause-bodies
-returns-then-self-room-clause-bodies g c = λ told. bodies-same c.args.self.now.pager.levels.parts c.args.self.now.pager.levels.parts (loom_told g.H.Host c.args.self.now).heap refl
-
-pub returns-then-self-room-clause-room : goal.returns-then-self-room-clause-room
-returns-then-self-room-clause-room g c = λ words has. has
+pub returns-then-self-room-clause-asks : goal.returns-then-self-room-clause-asks
+returns-then-self-room-clause-asks g c = record {
+  thinned = quiet-thinned (loom_told g.H.Host c.args.self.now) (loom_told g.H.Host c.args.self.now) (quiet-same g.H.Host c.args.self.now) c.requires.fit.ready;
+  held = let less = c.if-self-room.true in let is = c.room.ensures in omega (arith, less, is);
+  next = refl;
+  minds = λ told. minds-refl g.H.Host c.args.self.now (λ k. ⊥) c.requires.fit.sound;
+  bodies = λ told. bodies-same c.args.self.now.pager.levels.parts c.args.self.now.pager.levels.parts (loom_told g.H.Host c.args.self.now).heap refl;
+  room = λ words has. has;
+}
 
 pub returns-then-self-lt-MAKINGS_BEFORE_FREEING-clause-spared : goal.returns-then-self-lt-MAKINGS_BEFORE_FREEING-clause-spared
 returns-then-self-lt-MAKINGS_BEFORE_FREEING-clause-spared g c = λ undrained. c.crowded.ensures.spared
@@ -26,9 +32,6 @@ returns-then-self-lt-MAKINGS_BEFORE_FREEING-clause-sure g c = λ low. let no = c
 
 pub returns-clause-sure : goal.returns-clause-sure
 returns-clause-sure g c = err-each c.free_one.result (λ low. let no = c.if-self-room.false in omega (arith, low, no))
-
-pub returns-then-self-room-clause-minds : goal.returns-then-self-room-clause-minds
-returns-then-self-room-clause-minds g c = λ told. minds-refl g.H.Host c.args.self.now (λ k. ⊥) c.requires.sound
 
 pub returns-then-self-room-clause-alive : goal.returns-then-self-room-clause-alive
 returns-then-self-room-clause-alive g c = λ full. let low = c.if-self-room.true in absurd (omega (arith, low, full))

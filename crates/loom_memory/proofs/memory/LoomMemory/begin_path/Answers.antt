@@ -15,7 +15,7 @@ use Rattle.loom_memory.proofs.memory.LoomMemory.begin_path.Goals as goal
 use Rattle.loom_memory.proofs.memory.LoomMemory.begin_path.Given as given
 
 pub refresh-requires-clause-parts : goal.refresh-requires-clause-parts
-refresh-requires-clause-parts g c = c.requires.kept.parts
+refresh-requires-clause-parts g c = c.args.self.now.pager.levels.whole.parts
 
 pub refresh-requires-clause-cached : goal.refresh-requires-clause-cached
 refresh-requires-clause-cached g c = c.requires.kept.cached

@@ -20,7 +20,7 @@ use Rattle.loom_memory.proofs.MindLaws.{minds-then}
 use Rattle.loom_memory.proofs.memory.LoomMemory.bring_leaf.Goals as goal
 
 pub come-requires-clause-leaf : goal.come-requires-clause-leaf
-come-requires-clause-leaf g c = let still = leaf-then c.args.self.now.pager.pinned (core_of c.args.self.now.pager.levels.parts) (core_of c.clear_first.new.self.pager.levels.parts) c.args.s.0 c.requires.sound.kept.parts.core c.in-Ok.ensures.sound.kept.parts.core c.in-Ok.ensures.calm c.requires.out (c.in-Ok.ensures.leaf c.args.s.0 c.requires.out c.requires.leaf) in (still.used, still.leaf)
+come-requires-clause-leaf g c = let still = leaf-then c.args.self.now.pager.pinned (core_of c.args.self.now.pager.levels.parts) (core_of c.clear_first.new.self.pager.levels.parts) c.args.s.0 c.args.self.now.pager.levels.whole.parts.core c.clear_first.new.self.pager.levels.whole.parts.core c.in-Ok.ensures.calm c.requires.out (c.in-Ok.ensures.leaf c.args.s.0 c.requires.out c.requires.leaf) in (still.used, still.leaf)
 
 pub come-requires-clause-record : goal.come-requires-clause-record
 come-requires-clause-record g c = (c.in-Ok.ensures.record c.args.s.0 c.args.words c.requires.out c.requires.leaf c.requires.record).record_there
@@ -37,42 +37,60 @@ come-requires-clause-room g c =
 pub come-requires-clause-spare : goal.come-requires-clause-spare
 come-requires-clause-spare g c = (c.in-Ok.ensures.room c.if-enough.true).1
 
-pub returns-then-enough-clause-thinned : goal.returns-then-enough-clause-thinned
-returns-then-enough-clause-thinned g c =
-    let t = loom_told g.H.Host c.args.self.now in
-    let u = loom_told g.H.Host c.clear_first.new.self in
-    let v = loom_told g.H.Host c.come.new.self in
-    thinned-trans t u v c.in-Ok.ensures.thinned (quiet-thinned u v c.come.ensures.quiet (thinned-ready t u c.in-Ok.ensures.thinned c.requires.ready))
+pub returns-then-enough-clause-thins : goal.returns-then-enough-clause-thins
+returns-then-enough-clause-thins g c = record {
+  thinned =
+      let t = loom_told g.H.Host c.args.self.now in
+      let u = loom_told g.H.Host c.clear_first.new.self in
+      let v = loom_told g.H.Host c.come.new.self in
+      thinned-trans t u v c.in-Ok.ensures.thins.thinned (quiet-thinned u v c.come.ensures.gains.quiet (thinned-ready t u c.in-Ok.ensures.thins.thinned c.requires.fit.ready));
+  minds =
+      let m = c.args.self.now in
+      let u = c.clear_first.new.self in
+      let s = c.args.s.0 in
+      minds-then g.H.Host m u c.come.new.self (λ k. ⊥) (λ k. k ≡ ((core_of u.pager.levels.parts).entries s).name) (λ k. k ≡ ((core_of m.pager.levels.parts).entries s).name) (λ k no. absurd no) (λ k is. is ∙ c.in-Ok.ensures.calm.live s c.requires.out) c.in-Ok.ensures.thins.minds c.come.ensures.minds;
+  regs = c.come.ensures.gains.regs ∙ c.in-Ok.ensures.thins.regs;
+  pins = c.come.ensures.gains.pins ∙ c.in-Ok.ensures.thins.pins;
+  next = c.come.ensures.gains.next ∙ ap (λ (k : Ledger). k.next) c.in-Ok.ensures.ledger;
+  due = time-quiet g.H.Host c.args.self.now c.clear_first.new.self c.come.new.self c.in-Ok.ensures.thins.due c.come.ensures.gains.due c.come.ensures.gains.quiet;
+  flag = λ on. c.come.ensures.gains.flag ∙ c.in-Ok.ensures.thins.flag on;
+}
 
-pub returns-then-enough-clause-gone : goal.returns-then-enough-clause-gone
-returns-then-enough-clause-gone g c = λ lacks due. alive-quiet (loom_told g.H.Host c.clear_first.new.self) (loom_told g.H.Host c.come.new.self) c.come.ensures.quiet (c.in-Ok.ensures.gone lacks due)
+pub returns-then-enough-clause-comes : goal.returns-then-enough-clause-comes
+returns-then-enough-clause-comes g c = record {
+  gone = λ lacks due. alive-quiet (loom_told g.H.Host c.clear_first.new.self) (loom_told g.H.Host c.come.new.self) c.come.ensures.gains.quiet (c.in-Ok.ensures.gone lacks due);
+  gentle = λ room. gentle-trans g.H.Host c.args.self.now c.clear_first.new.self c.come.new.self (c.in-Ok.ensures.gentle room) c.come.ensures.gains.gentle;
+}
 
-pub full-requires-in-Ok-clause-ready : goal.full-requires-in-Ok-clause-ready
-full-requires-in-Ok-clause-ready g c = thinned-ready (loom_told g.H.Host c.args.self.now) (loom_told g.H.Host c.clear_first.new.self) c.in-Ok.ensures.thinned c.requires.ready
+pub full-requires-in-Ok-clause-fit : goal.full-requires-in-Ok-clause-fit
+full-requires-in-Ok-clause-fit g c = record {
+  sound = c.in-Ok.ensures.leaves.sound;
+  ready = thinned-ready (loom_told g.H.Host c.args.self.now) (loom_told g.H.Host c.clear_first.new.self) c.in-Ok.ensures.thins.thinned c.requires.fit.ready;
+}
 
 pub full-requires-in-Ok-clause-used : goal.full-requires-in-Ok-clause-used
-full-requires-in-Ok-clause-used g c = (leaf-then c.args.self.now.pager.pinned (core_of c.args.self.now.pager.levels.parts) (core_of c.clear_first.new.self.pager.levels.parts) c.args.s.0 c.requires.sound.kept.parts.core c.in-Ok.ensures.sound.kept.parts.core c.in-Ok.ensures.calm c.requires.out (c.in-Ok.ensures.leaf c.args.s.0 c.requires.out c.requires.leaf)).used
+full-requires-in-Ok-clause-used g c = (leaf-then c.args.self.now.pager.pinned (core_of c.args.self.now.pager.levels.parts) (core_of c.clear_first.new.self.pager.levels.parts) c.args.s.0 c.args.self.now.pager.levels.whole.parts.core c.clear_first.new.self.pager.levels.whole.parts.core c.in-Ok.ensures.calm c.requires.out (c.in-Ok.ensures.leaf c.args.s.0 c.requires.out c.requires.leaf)).used
 
 pub full-requires-in-Ok-clause-sized : goal.full-requires-in-Ok-clause-sized
 unfolding loom_told
 full-requires-in-Ok-clause-sized g c = λ told.
     let m = c.args.self.now in
     let n = c.clear_first.new.self in
-    let still = leaf-then m.pager.pinned (core_of m.pager.levels.parts) (core_of n.pager.levels.parts) c.args.s.0 c.requires.sound.kept.parts.core c.in-Ok.ensures.sound.kept.parts.core c.in-Ok.ensures.calm c.requires.out (c.in-Ok.ensures.leaf c.args.s.0 c.requires.out c.requires.leaf) in
-    leaf-words (g.H.Host.tells Work) (core_of n.pager.levels.parts) (disk_of g.H.Host n.pager.levels.disk.host.now n.pager.levels.disk.rest) n.ledger.next c.args.s.0 c.args.words told c.in-Ok.ensures.sound.kept.parts.core still.used still.leaf
+    let still = leaf-then m.pager.pinned (core_of m.pager.levels.parts) (core_of n.pager.levels.parts) c.args.s.0 c.args.self.now.pager.levels.whole.parts.core c.clear_first.new.self.pager.levels.whole.parts.core c.in-Ok.ensures.calm c.requires.out (c.in-Ok.ensures.leaf c.args.s.0 c.requires.out c.requires.leaf) in
+    leaf-words (g.H.Host.tells Work) (core_of n.pager.levels.parts) (disk_of g.H.Host n.pager.levels.disk.host.now n.pager.levels.disk.rest) n.ledger.next c.args.s.0 c.args.words told c.clear_first.new.self.pager.levels.whole.parts.core still.used still.leaf
     (read-sized (g.H.Host.tells Work) n.buf (disk_of g.H.Host n.pager.levels.disk.host.now n.pager.levels.disk.rest) ((core_of n.pager.levels.parts).entries c.args.s.0).name c.args.words
     (c.in-Ok.ensures.record c.args.s.0 c.args.words c.requires.out c.requires.leaf c.requires.record))
 
 pub full-requires-in-Ok-clause-unfit : goal.full-requires-in-Ok-clause-unfit
 full-requires-in-Ok-clause-unfit g c = λ need is.
     let n = c.clear_first.new.self in
-    let still = leaf-then c.args.self.now.pager.pinned (core_of c.args.self.now.pager.levels.parts) (core_of n.pager.levels.parts) c.args.s.0 c.requires.sound.kept.parts.core c.in-Ok.ensures.sound.kept.parts.core c.in-Ok.ensures.calm c.requires.out (c.in-Ok.ensures.leaf c.args.s.0 c.requires.out c.requires.leaf) in
-    unfit n.pager.levels.parts n.regs n.pager.pinned n.ledger c.args.s.0 c.args.words need (object_in (raw_of c.args.self.now.buf)) c.in-Ok.ensures.sound.kept (c.in-Ok.ensures.short c.if-enough.false) c.entries_are_counted.ensures c.chunks_never_overlap.ensures still.used still.leaf c.requires.record.sized is
+    let still = leaf-then c.args.self.now.pager.pinned (core_of c.args.self.now.pager.levels.parts) (core_of n.pager.levels.parts) c.args.s.0 c.args.self.now.pager.levels.whole.parts.core c.clear_first.new.self.pager.levels.whole.parts.core c.in-Ok.ensures.calm c.requires.out (c.in-Ok.ensures.leaf c.args.s.0 c.requires.out c.requires.leaf) in
+    unfit n.pager.levels.parts n.regs n.pager.pinned n.ledger c.args.s.0 c.args.words need (object_in (raw_of c.args.self.now.buf)) n.pager.levels.whole c.in-Ok.ensures.leaves.sound.kept (c.in-Ok.ensures.short c.if-enough.false) c.entries_are_counted.ensures c.chunks_never_overlap.ensures still.used still.leaf c.requires.record.sized is
 
 pub returns-else-enough-clause-err : goal.returns-else-enough-clause-err
 returns-else-enough-clause-err g c =
     let calm = c.in-Ok.ensures.calm in
-    at-freed (loom_told g.H.Host c.args.self.now) (loom_told g.H.Host c.clear_first.new.self) (loom_told g.H.Host c.full-in-Ok.new.self) ((core_of c.args.self.now.pager.levels.parts).entries c.args.s.0).name c.full-in-Ok.result c.in-Ok.ensures.thinned
+    at-freed (loom_told g.H.Host c.args.self.now) (loom_told g.H.Host c.clear_first.new.self) (loom_told g.H.Host c.full-in-Ok.new.self) ((core_of c.args.self.now.pager.levels.parts).entries c.args.s.0).name c.full-in-Ok.result c.in-Ok.ensures.thins.thinned
     (subst (λ (k : ℕ). IsRefusedAt (loom_told g.H.Host c.clear_first.new.self) (loom_told g.H.Host c.full-in-Ok.new.self) k c.full-in-Ok.result) (calm.live c.args.s.0 c.requires.out) c.full-in-Ok.ensures.err)
 
 pub returns-in-Err-clause-err : goal.returns-in-Err-clause-err
@@ -82,23 +100,17 @@ pub full-requires-clause-sized : goal.full-requires-clause-sized
 unfolding loom_told
 full-requires-clause-sized g c = λ told.
     let m = c.args.self.now in
-    leaf-words (g.H.Host.tells Work) (core_of m.pager.levels.parts) (disk_of g.H.Host m.pager.levels.disk.host.now m.pager.levels.disk.rest) m.ledger.next c.args.s.0 c.args.words told c.requires.sound.kept.parts.core (outside-used (core_of m.pager.levels.parts) c.args.s.0 c.requires.sound.kept.parts.core c.requires.out) c.requires.leaf
+    leaf-words (g.H.Host.tells Work) (core_of m.pager.levels.parts) (disk_of g.H.Host m.pager.levels.disk.host.now m.pager.levels.disk.rest) m.ledger.next c.args.s.0 c.args.words told c.args.self.now.pager.levels.whole.parts.core (outside-used (core_of m.pager.levels.parts) c.args.s.0 c.args.self.now.pager.levels.whole.parts.core c.requires.out) c.requires.leaf
     (read-sized (g.H.Host.tells Work) m.buf (disk_of g.H.Host m.pager.levels.disk.host.now m.pager.levels.disk.rest) ((core_of m.pager.levels.parts).entries c.args.s.0).name c.args.words c.requires.record)
 
 pub full-requires-clause-unfit : goal.full-requires-clause-unfit
 full-requires-clause-unfit g c = λ need is fits. let all = is.all in let most = fits.words in let past = c.if-words-self.true in absurd (omega arith)
 
 pub full-requires-clause-used : goal.full-requires-clause-used
-full-requires-clause-used g c = outside-used (core_of c.args.self.now.pager.levels.parts) c.args.s.0 c.requires.sound.kept.parts.core c.requires.out
+full-requires-clause-used g c = outside-used (core_of c.args.self.now.pager.levels.parts) c.args.s.0 c.args.self.now.pager.levels.whole.parts.core c.requires.out
 
 pub returns-then-enough-clause-counted : goal.returns-then-enough-clause-counted
-returns-then-enough-clause-counted g c = c.come.ensures.counted ∙ ap counted c.clear_first.ensures.brings
-
-pub returns-then-enough-clause-gentle : goal.returns-then-enough-clause-gentle
-returns-then-enough-clause-gentle g c = λ room. gentle-trans g.H.Host c.args.self.now c.clear_first.new.self c.come.new.self (c.in-Ok.ensures.gentle room) c.come.ensures.gentle
-
-pub returns-then-enough-clause-next : goal.returns-then-enough-clause-next
-returns-then-enough-clause-next g c = c.come.ensures.next ∙ ap (λ (k : Ledger). k.next) c.in-Ok.ensures.ledger
+returns-then-enough-clause-counted g c = c.come.ensures.counted ∙ ap counted c.clear_first.ensures.leaves.fetches
 
 pub returns-then-enough-clause-buf : goal.returns-then-enough-clause-buf
 returns-then-enough-clause-buf g c = c.come.ensures.buf ∙ c.in-Ok.ensures.buf
@@ -114,19 +126,3 @@ returns-else-enough-clause-buf g c = c.full-in-Ok.ensures.buf ∙ c.in-Ok.ensure
 
 pub returns-in-Err-clause-damage : goal.returns-in-Err-clause-damage
 returns-in-Err-clause-damage g c = λ room. absurd (c.in-Err.ensures.sure room)
-
-pub returns-then-enough-clause-minds : goal.returns-then-enough-clause-minds
-returns-then-enough-clause-minds g c =
-    let m = c.args.self.now in
-    let u = c.clear_first.new.self in
-    let s = c.args.s.0 in
-    minds-then g.H.Host m u c.come.new.self (λ k. ⊥) (λ k. k ≡ ((core_of u.pager.levels.parts).entries s).name) (λ k. k ≡ ((core_of m.pager.levels.parts).entries s).name) (λ k no. absurd no) (λ k is. is ∙ c.in-Ok.ensures.calm.live s c.requires.out) c.in-Ok.ensures.minds c.come.ensures.minds
-
-pub returns-then-enough-clause-due : goal.returns-then-enough-clause-due
-returns-then-enough-clause-due g c = time-quiet g.H.Host c.args.self.now c.clear_first.new.self c.come.new.self c.in-Ok.ensures.due c.come.ensures.due c.come.ensures.quiet
-
-pub returns-then-enough-clause-flag : goal.returns-then-enough-clause-flag
-returns-then-enough-clause-flag g c = λ on. c.come.ensures.flag ∙ c.in-Ok.ensures.flag on
-
-pub returns-then-enough-clause-pins : goal.returns-then-enough-clause-pins
-returns-then-enough-clause-pins g c = c.come.ensures.pins ∙ c.in-Ok.ensures.pins

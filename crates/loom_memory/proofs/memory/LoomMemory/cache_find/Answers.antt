@@ -34,7 +34,7 @@ returns-in-None-clause-found g c =
     record {
       rows = λ n. subst (λ (w : ℕ). row_of_values (cache_of (core_of m.pager.levels.parts) (found m.ledger.rows) m.ledger.mark m.ledger.begun) (meant (core_of m.pager.levels.parts).entries [] 0 w) (meant (core_of m.pager.levels.parts).entries [] 0 (word_in m.regs c.args.selector)) n ≡ false) c.word_of-c.ensures.word
           (subst (λ (w : ℕ). row_of_values (cache_of (core_of m.pager.levels.parts) (found m.ledger.rows) m.ledger.mark m.ledger.begun) (meant (core_of m.pager.levels.parts).entries [] 0 c.word_of-c.result) (meant (core_of m.pager.levels.parts).entries [] 0 w) n ≡ false) c.word_of-s.ensures.word
-          (row-unknown (core_of m.pager.levels.parts) (found m.ledger.rows) m.ledger.mark m.ledger.begun c.word_of-c.result c.word_of-s.result n c.requires.kept.parts.core c.word_of-c.ensures.some c.word_of-s.ensures.some c.word_of-c.ensures.used c.word_of-s.ensures.used (sym c.find.ensures ∙ c.in-None.is)));
+          (row-unknown (core_of m.pager.levels.parts) (found m.ledger.rows) m.ledger.mark m.ledger.begun c.word_of-c.result c.word_of-s.result n c.args.self.now.pager.levels.whole.parts.core c.word_of-c.ensures.some c.word_of-s.ensures.some c.word_of-c.ensures.used c.word_of-s.ensures.used (sym c.find.ensures ∙ c.in-None.is)));
       told = refl;
     }
 
@@ -52,13 +52,13 @@ put_word-requires-clause-used g c = λ is.
 pub put_word-requires-clause-some : goal.put_word-requires-clause-some
 put_word-requires-clause-some g c =
     let m = c.args.self.now in
-    marked-some (core_of m.pager.levels.parts) c.in-Some.w c.requires.kept.parts.core (c.requires.kept.cached.rows (sym c.names_marked.ensures ∙ c.if-not-names_marked.false) c.word_of-c.result c.word_of-s.result c.in-Some.w (sym c.find.ensures ∙ c.in-Some.is)).2
+    marked-some (core_of m.pager.levels.parts) c.in-Some.w c.args.self.now.pager.levels.whole.parts.core (c.requires.kept.cached.rows (sym c.names_marked.ensures ∙ c.if-not-names_marked.false) c.word_of-c.result c.word_of-s.result c.in-Some.w (sym c.find.ensures ∙ c.in-Some.is)).2
 
 marked : (g : given.Over) (c : goal.After-put_word g) → (has_mark (core_of c.args.self.now.pager.levels.parts) c.word_of-c.result ≡ true) × (has_mark (core_of c.args.self.now.pager.levels.parts) c.word_of-s.result ≡ true) × (has_mark (core_of c.args.self.now.pager.levels.parts) c.in-Some.w ≡ true)
 marked g c = c.requires.kept.cached.rows (sym c.names_marked.ensures ∙ c.if-not-names_marked.false) c.word_of-c.result c.word_of-s.result c.in-Some.w (sym c.find.ensures ∙ c.in-Some.is)
 
 told-of : (g : given.Over) (c : goal.After-put_word g) → loom_told g.H.Host c.put_word.new.self ≡ record (loom_told g.H.Host c.args.self.now) { regs = set_register (loom_told g.H.Host c.args.self.now).regs c.args.to (Ref ((core_of c.args.self.now.pager.levels.parts).entries c.in-Some.w).name) }
-told-of g c = c.put_word.ensures.told ∙ ap (λ (v : Value). record (loom_told g.H.Host c.args.self.now) { regs = set_register (loom_told g.H.Host c.args.self.now).regs c.args.to v }) (marked-means (core_of c.args.self.now.pager.levels.parts) c.in-Some.w c.requires.kept.parts.core (marked g c).2)
+told-of g c = c.put_word.ensures.told ∙ ap (λ (v : Value). record (loom_told g.H.Host c.args.self.now) { regs = set_register (loom_told g.H.Host c.args.self.now).regs c.args.to v }) (marked-means (core_of c.args.self.now.pager.levels.parts) c.in-Some.w c.args.self.now.pager.levels.whole.parts.core (marked g c).2)
 
 row-of : (g : given.Over) (c : goal.After-put_word g)
     → row_of_values (loom_told g.H.Host c.args.self.now).cache ((loom_told g.H.Host c.args.self.now).regs c.args.class) ((loom_told g.H.Host c.args.self.now).regs c.args.selector) ((core_of c.args.self.now.pager.levels.parts).entries c.in-Some.w).name ≡ true
@@ -68,7 +68,7 @@ row-of g c =
     let e = (core_of m.pager.levels.parts).entries in
     subst (λ (w : ℕ). row_of_values (cache_of (core_of m.pager.levels.parts) (found m.ledger.rows) m.ledger.mark m.ledger.begun) (meant (core_of m.pager.levels.parts).entries [] 0 w) (meant (core_of m.pager.levels.parts).entries [] 0 (word_in m.regs c.args.selector)) (e c.in-Some.w).name ≡ true) c.word_of-c.ensures.word
     (subst (λ (w : ℕ). row_of_values (cache_of (core_of m.pager.levels.parts) (found m.ledger.rows) m.ledger.mark m.ledger.begun) (meant (core_of m.pager.levels.parts).entries [] 0 c.word_of-c.result) (meant (core_of m.pager.levels.parts).entries [] 0 w) (e c.in-Some.w).name ≡ true) c.word_of-s.ensures.word
-    (row-found (core_of m.pager.levels.parts) (found m.ledger.rows) m.ledger.mark m.ledger.begun c.word_of-c.result c.word_of-s.result c.in-Some.w c.requires.kept.parts.core (sym c.names_marked.ensures ∙ c.if-not-names_marked.false) (marked g c).0 (marked g c).1 (sym c.find.ensures ∙ c.in-Some.is)))
+    (row-found (core_of m.pager.levels.parts) (found m.ledger.rows) m.ledger.mark m.ledger.begun c.word_of-c.result c.word_of-s.result c.in-Some.w c.args.self.now.pager.levels.whole.parts.core (sym c.names_marked.ensures ∙ c.if-not-names_marked.false) (marked g c).0 (marked g c).1 (sym c.find.ensures ∙ c.in-Some.is)))
 
 pub returns-in-Some-clause-found : goal.returns-in-Some-clause-found
 returns-in-Some-clause-found g c = record {
@@ -86,14 +86,14 @@ returns-in-Some-clause-remembered g c = λ method has.
 
 marks-of : (g : given.Over) (c : goal.After-put_word g) → (loom_told g.H.Host c.args.self.now).cache.marks ((core_of c.args.self.now.pager.levels.parts).entries c.in-Some.w).name ≡ true
 unfolding loom_told
-marks-of g c = mark-name (core_of c.args.self.now.pager.levels.parts) c.in-Some.w c.requires.kept.parts.core (marked g c).2
+marks-of g c = mark-name (core_of c.args.self.now.pager.levels.parts) c.in-Some.w c.args.self.now.pager.levels.whole.parts.core (marked g c).2
 
 pub returns-in-Some-clause-fit : goal.returns-in-Some-clause-fit
 returns-in-Some-clause-fit g c = record {
-  sound = c.put_word.ensures.sound;
+  sound = c.put_word.ensures.leaves.sound;
   ready = λ ready. subst (λ (t : Told). IsReady t) (sym (told-of g c)) (ready-found (loom_told g.H.Host c.args.self.now) c.args.to ((core_of c.args.self.now.pager.levels.parts).entries c.in-Some.w).name ready (marks-of g c));
-  lender = c.put_word.ensures.lender;
-  outside = c.put_word.ensures.outside;
+  lender = c.put_word.ensures.leaves.lender;
+  outside = c.put_word.ensures.leaves.outside;
 }
 
 pub returns-then-not-names_marked-clause-steady : goal.returns-then-not-names_marked-clause-steady

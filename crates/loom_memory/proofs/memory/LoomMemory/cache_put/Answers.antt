@@ -28,7 +28,7 @@ pub returns-then-not-names_marked-clause-whole : goal.returns-then-not-names_mar
 unfolding loom_told
 returns-then-not-names_marked-clause-whole g c = λ whole.
     let m = c.args.self.now in
-    absurd (unmarked-whole (core_of m.pager.levels.parts) (found m.ledger.rows) m.ledger.mark m.ledger.begun (meant (core_of m.pager.levels.parts).entries [] 0 (word_in m.regs c.args.class)) c.requires.sound.kept.parts.core c.requires.sound.kept.cached (sym c.names_marked.ensures ∙ c.if-not-names_marked.true) (c.requires.class whole))
+    absurd (unmarked-whole (core_of m.pager.levels.parts) (found m.ledger.rows) m.ledger.mark m.ledger.begun (meant (core_of m.pager.levels.parts).entries [] 0 (word_in m.regs c.args.class)) c.args.self.now.pager.levels.whole.parts.core c.requires.sound.kept.cached (sym c.names_marked.ensures ∙ c.if-not-names_marked.true) (c.requires.class whole))
 
 whole-of : (g : given.Over) (c : goal.After-put g) → (loom_told g.H.Host c.args.self.now).cache.path ≡ true
 unfolding loom_told
@@ -38,27 +38,27 @@ class-of : (g : given.Over) (c : goal.After-put g) → (has_mark (core_of c.args
 unfolding loom_told
 class-of g c =
     let m = c.args.self.now in
-    marked-word (core_of m.pager.levels.parts) (found m.ledger.rows) m.ledger.mark m.ledger.begun c.word_of-c.result c.requires.sound.kept.parts.core c.word_of-c.ensures.some c.word_of-c.ensures.used
+    marked-word (core_of m.pager.levels.parts) (found m.ledger.rows) m.ledger.mark m.ledger.begun c.word_of-c.result c.args.self.now.pager.levels.whole.parts.core c.word_of-c.ensures.some c.word_of-c.ensures.used
     (subst (λ (w : ℕ). is_marked (cache_of (core_of m.pager.levels.parts) (found m.ledger.rows) m.ledger.mark m.ledger.begun) (meant (core_of m.pager.levels.parts).entries [] 0 w) ≡ true) (sym c.word_of-c.ensures.word) (c.requires.class (whole-of g c)))
 
 selector-of : (g : given.Over) (c : goal.After-put g) → (has_mark (core_of c.args.self.now.pager.levels.parts) c.word_of-s.result ≡ true) × (is_short c.word_of-s.result ≡ true)
 unfolding loom_told
 selector-of g c =
     let m = c.args.self.now in
-    marked-word (core_of m.pager.levels.parts) (found m.ledger.rows) m.ledger.mark m.ledger.begun c.word_of-s.result c.requires.sound.kept.parts.core c.word_of-s.ensures.some c.word_of-s.ensures.used
+    marked-word (core_of m.pager.levels.parts) (found m.ledger.rows) m.ledger.mark m.ledger.begun c.word_of-s.result c.args.self.now.pager.levels.whole.parts.core c.word_of-s.ensures.some c.word_of-s.ensures.used
     (subst (λ (w : ℕ). is_marked (cache_of (core_of m.pager.levels.parts) (found m.ledger.rows) m.ledger.mark m.ledger.begun) (meant (core_of m.pager.levels.parts).entries [] 0 w) ≡ true) (sym c.word_of-s.ensures.word) (c.requires.selector (whole-of g c)))
 
 method-of : (g : given.Over) (c : goal.After-put g) → (has_mark (core_of c.args.self.now.pager.levels.parts) c.word_of-m.result ≡ true) × (is_short c.word_of-m.result ≡ true)
 unfolding loom_told
 method-of g c =
     let m = c.args.self.now in
-    marked-word (core_of m.pager.levels.parts) (found m.ledger.rows) m.ledger.mark m.ledger.begun c.word_of-m.result c.requires.sound.kept.parts.core c.word_of-m.ensures.some c.word_of-m.ensures.used
+    marked-word (core_of m.pager.levels.parts) (found m.ledger.rows) m.ledger.mark m.ledger.begun c.word_of-m.result c.args.self.now.pager.levels.whole.parts.core c.word_of-m.ensures.some c.word_of-m.ensures.used
     (subst (λ (w : ℕ). is_marked (cache_of (core_of m.pager.levels.parts) (found m.ledger.rows) m.ledger.mark m.ledger.begun) (meant (core_of m.pager.levels.parts).entries [] 0 w) ≡ true) (sym c.word_of-m.ensures.word) (c.requires.method (whole-of g c)))
 
 -- what a register's marked word means
 means-of : (g : given.Over) (c : goal.After-put g) (r w : ℕ) → w ≡ word_in c.args.self.now.regs r → has_mark (core_of c.args.self.now.pager.levels.parts) w ≡ true → (loom_told g.H.Host c.args.self.now).regs r ≡ Ref ((core_of c.args.self.now.pager.levels.parts).entries w).name
 unfolding loom_told
-means-of g c r w is on = ap (meant (core_of c.args.self.now.pager.levels.parts).entries [] 0) (sym is) ∙ marked-means (core_of c.args.self.now.pager.levels.parts) w c.requires.sound.kept.parts.core on
+means-of g c r w is on = ap (meant (core_of c.args.self.now.pager.levels.parts).entries [] 0) (sym is) ∙ marked-means (core_of c.args.self.now.pager.levels.parts) w c.args.self.now.pager.levels.whole.parts.core on
 
 pub returns-clause-put : goal.returns-clause-put
 unfolding loom_told
@@ -69,11 +69,11 @@ returns-clause-put g c =
       path = whole-of g c;
       row = λ n name. subst (λ (w : ℕ). row_of_values (cache_of x (found c.put.new.self) m.ledger.mark m.ledger.begun) (meant x.entries [] 0 w) (meant x.entries [] 0 (word_in m.regs c.args.selector)) n ≡ true) c.word_of-c.ensures.word
           (subst (λ (w : ℕ). row_of_values (cache_of x (found c.put.new.self) m.ledger.mark m.ledger.begun) (meant x.entries [] 0 c.word_of-c.result) (meant x.entries [] 0 w) n ≡ true) c.word_of-s.ensures.word
-          (put-row x (found m.ledger.rows) (found c.put.new.self) m.ledger.mark c.word_of-c.result c.word_of-s.result c.word_of-m.result n m.ledger.begun c.requires.sound.kept.parts.core (sym c.names_marked.ensures ∙ c.if-not-names_marked.false) (class-of g c).0 (selector-of g c).0 (method-of g c).0 c.put.ensures.here
+          (put-row x (found m.ledger.rows) (found c.put.new.self) m.ledger.mark c.word_of-c.result c.word_of-s.result c.word_of-m.result n m.ledger.begun c.args.self.now.pager.levels.whole.parts.core (sym c.names_marked.ensures ∙ c.if-not-names_marked.false) (class-of g c).0 (selector-of g c).0 (method-of g c).0 c.put.ensures.here
           (ap (meant x.entries [] 0) c.word_of-m.ensures.word ∙ name)));
       rows = λ k n w row. ⊎_elim (λ old. inl old)
           (λ new. inr (means-of g c c.args.class c.word_of-c.result c.word_of-c.ensures.word (class-of g c).0 ∙ ap Ref new.0, means-of g c c.args.selector c.word_of-s.result c.word_of-s.ensures.word (selector-of g c).0 ∙ ap Ref new.1, means-of g c c.args.method c.word_of-m.result c.word_of-m.ensures.word (method-of g c).0 ∙ ap Ref new.2))
-          (put-rows x (found m.ledger.rows) (found c.put.new.self) m.ledger.mark c.word_of-c.result c.word_of-s.result c.word_of-m.result m.ledger.begun c.requires.sound.kept.parts.core c.put.ensures k n w row);
+          (put-rows x (found m.ledger.rows) (found c.put.new.self) m.ledger.mark c.word_of-c.result c.word_of-s.result c.word_of-m.result m.ledger.begun c.args.self.now.pager.levels.whole.parts.core c.put.ensures k n w row);
       told = refl;
     }
 
@@ -105,8 +105,8 @@ ready-of g c = λ ready.
       whole = ready.whole;
       marked = ready.marked;
       cached = λ k n w row. ⊎_elim (λ old. ready.cached k n w old)
-          (λ new. subst (λ (j : ℕ). marked_of x j ≡ true) new.2 (mark-name x c.word_of-m.result c.requires.sound.kept.parts.core (method-of g c).0))
-          (put-rows x (found m.ledger.rows) (found c.put.new.self) m.ledger.mark c.word_of-c.result c.word_of-s.result c.word_of-m.result m.ledger.begun c.requires.sound.kept.parts.core c.put.ensures k n w row);
+          (λ new. subst (λ (j : ℕ). marked_of x j ≡ true) new.2 (mark-name x c.word_of-m.result c.args.self.now.pager.levels.whole.parts.core (method-of g c).0))
+          (put-rows x (found m.ledger.rows) (found c.put.new.self) m.ledger.mark c.word_of-c.result c.word_of-s.result c.word_of-m.result m.ledger.begun c.args.self.now.pager.levels.whole.parts.core c.put.ensures k n w row);
     }
 
 pub returns-clause-fit : goal.returns-clause-fit
@@ -136,6 +136,6 @@ returns-clause-others g c = λ yes_.
     record {
       lost_class = (x.entries c.put.ensures.lost_class).name;
       lost_selector = (x.entries c.put.ensures.lost_selector).name;
-      others = λ k n w not kept. put-others x (found m.ledger.rows) (found c.put.new.self) m.ledger.mark c.word_of-c.result c.word_of-s.result c.word_of-m.result m.ledger.begun c.requires.sound.kept.parts.core c.put.ensures k n w
+      others = λ k n w not kept. put-others x (found m.ledger.rows) (found c.put.new.self) m.ledger.mark c.word_of-c.result c.word_of-s.result c.word_of-m.result m.ledger.begun c.args.self.now.pager.levels.whole.parts.core c.put.ensures k n w
           (λ both. not (means-of g c c.args.class c.word_of-c.result c.word_of-c.ensures.word (class-of g c).0 ∙ ap Ref both.0, means-of g c c.args.selector c.word_of-s.result c.word_of-s.ensures.word (selector-of g c).0 ∙ ap Ref both.1)) kept;
     }

@@ -58,10 +58,10 @@ returns-clause-number g c = number-came c.put_name.result _ _ (name-came c.put_n
 
 pub returns-clause-fit : goal.returns-clause-fit
 returns-clause-fit g c = record {
-  sound = c.put_name.ensures.sound;
+  sound = c.put_name.ensures.leaves.sound;
   ready = ready-named c.put_name.result (loom_told g.H.Host c.args.self.now) (loom_told g.H.Host c.put_name.new.self) c.args.to SMALL_INTEGER c.put_name.ensures.naming (λ told. (c.requires.fit.ready.whole told).known SMALL_INTEGER refl) c.requires.fit.ready;
-  lender = c.put_name.ensures.lender;
-  outside = c.put_name.ensures.outside;
+  lender = c.put_name.ensures.leaves.lender;
+  outside = c.put_name.ensures.leaves.outside;
 }
 
 pub returns-then-is_name-clause-own : goal.returns-then-is_name-clause-own
@@ -98,7 +98,7 @@ pub returns-then-is_name-clause-brings : goal.returns-then-is_name-clause-brings
 returns-then-is_name-clause-brings g c = brings-where c.args.self.now c.class_of_object.new.self _ _ (λ away. (ref-of g c, away)) c.class_of_object.ensures.brings
 
 pub returns-clause-brings : goal.returns-clause-brings
-returns-clause-brings g c = brings-none c.args.self.now c.put_name.new.self _ c.put_name.ensures.brings
+returns-clause-brings g c = brings-none c.args.self.now c.put_name.new.self _ c.put_name.ensures.leaves.fetches
 
 pub returns-then-is_name-clause-gone : goal.returns-then-is_name-clause-gone
 returns-then-is_name-clause-gone g c = λ ref. c.class_of_object.ensures.gone

@@ -30,25 +30,25 @@ use Rattle.loom_memory.proofs.memory.LoomMemory.class_of_object.Given as given
 
 pub used_entry-e-requires : goal.used_entry-e-requires
 unfolding core_of
-used_entry-e-requires g c = placed-used ((core_of c.load.new.self.pager.levels.parts).entries c.in-Ok.s.0).state c.in-Ok.ensures.loaded.at c.in-Ok.ensures.loaded.place
+used_entry-e-requires g c = placed-used ((core_of c.load.new.self.pager.levels.parts).entries c.in-Ok.s.0).state c.in-Ok.ensures.here.loaded.at c.in-Ok.ensures.here.loaded.place
 
 class-same : (g : given.Over) (c : goal.After-put_word g) → c.used_entry-e.result.class.0 ≡ ((core_of c.load.new.self.pager.levels.parts).entries c.in-Ok.s.0).class.0
 unfolding core_of
 class-same g c = ap (λ (e : Entry). e.class.0) c.used_entry-e.ensures
 
 class-short : (g : given.Over) (c : goal.After-put_word g) → is_short c.used_entry-e.result.class.0 ≡ true
-class-short g c = subst (λ (w : ℕ). is_short w ≡ true) (sym (class-same g c)) (c.in-Ok.ensures.sound.kept.parts.core.classed c.in-Ok.s.0 c.in-Ok.ensures.loaded.at c.in-Ok.ensures.loaded.place)
+class-short g c = subst (λ (w : ℕ). is_short w ≡ true) (sym (class-same g c)) (c.load.new.self.pager.levels.whole.parts.core.classed c.in-Ok.s.0 c.in-Ok.ensures.here.loaded.at c.in-Ok.ensures.here.loaded.place)
 
 pub put_word-requires-clause-used : goal.put_word-requires-clause-used
 unfolding core_of
 put_word-requires-clause-used g c = λ is.
     let x = core_of c.load.new.self.pager.levels.parts in
-    let core = c.in-Ok.ensures.sound.kept.parts.core in
-    used-live x core c.used_entry-e.result.class.0 (subst (λ (w : ℕ). 1 ≤ uses x w) (sym (ap (λ (e : Entry). e.class.0) c.used_entry-e.ensures)) (class-used x core c.in-Ok.s.0 c.in-Ok.ensures.loaded.at c.in-Ok.ensures.loaded.place))
+    let core = c.load.new.self.pager.levels.whole.parts.core in
+    used-live x core c.used_entry-e.result.class.0 (subst (λ (w : ℕ). 1 ≤ uses x w) (sym (ap (λ (e : Entry). e.class.0) c.used_entry-e.ensures)) (class-used x core c.in-Ok.s.0 c.in-Ok.ensures.here.loaded.at c.in-Ok.ensures.here.loaded.place))
 
 pub put_word-requires-clause-some : goal.put_word-requires-clause-some
 unfolding core_of
-put_word-requires-clause-some g c = short-some c.used_entry-e.result.class.0 (subst (λ (w : ℕ). is_short w ≡ true) (sym (ap (λ (e : Entry). e.class.0) c.used_entry-e.ensures)) (c.in-Ok.ensures.sound.kept.parts.core.classed c.in-Ok.s.0 c.in-Ok.ensures.loaded.at c.in-Ok.ensures.loaded.place))
+put_word-requires-clause-some g c = short-some c.used_entry-e.result.class.0 (subst (λ (w : ℕ). is_short w ≡ true) (sym (ap (λ (e : Entry). e.class.0) c.used_entry-e.ensures)) (c.load.new.self.pager.levels.whole.parts.core.classed c.in-Ok.s.0 c.in-Ok.ensures.here.loaded.at c.in-Ok.ensures.here.loaded.place))
 
 told-of : (g : given.Over) (c : goal.After-put_word g) → loom_told g.H.Host c.put_word.new.self ≡ record (loom_told g.H.Host c.load.new.self) { regs = set_register (loom_told g.H.Host c.load.new.self).regs c.args.to (Ref ((core_of c.load.new.self.pager.levels.parts).entries ((core_of c.load.new.self.pager.levels.parts).entries c.in-Ok.s.0).class.0).name) }
 told-of g c =
@@ -59,13 +59,13 @@ told-of g c =
 class-of : (g : given.Over) (c : goal.After-put_word g) → IsTrue (g.H.Host.tells Work) → class_at (loom_told g.H.Host c.load.new.self).heap ((loom_told g.H.Host c.load.new.self).regs c.args.of) ≡ Some ((core_of c.load.new.self.pager.levels.parts).entries ((core_of c.load.new.self.pager.levels.parts).entries c.in-Ok.s.0).class.0).name
 class-of g c told =
     let n = c.load.new.self in
-    class-there (loom_told g.H.Host n).heap ((loom_told g.H.Host n).regs c.args.of) (object_at (core_of n.pager.levels.parts) (disk_of g.H.Host n.pager.levels.disk.host.now n.pager.levels.disk.rest) ((core_of n.pager.levels.parts).entries c.in-Ok.s.0) c.in-Ok.ensures.loaded.at) (c.in-Ok.ensures.loaded.object told)
+    class-there (loom_told g.H.Host n).heap ((loom_told g.H.Host n).regs c.args.of) (object_at (core_of n.pager.levels.parts) (disk_of g.H.Host n.pager.levels.disk.host.now n.pager.levels.disk.rest) ((core_of n.pager.levels.parts).entries c.in-Ok.s.0) c.in-Ok.ensures.here.loaded.at) (c.in-Ok.ensures.here.loaded.object told)
 
 pub returns-in-Ok-clause-access : goal.returns-in-Ok-clause-access
 returns-in-Ok-clause-access g c =
     let n = c.load.new.self in
     class-freed (loom_told g.H.Host c.args.self.now) (loom_told g.H.Host n) (loom_told g.H.Host c.put_word.new.self) c.args.to c.args.of ((core_of n.pager.levels.parts).entries ((core_of n.pager.levels.parts).entries c.in-Ok.s.0).class.0).name c.in-Ok.ensures.thinned (told-of g c)
-    (λ told. class-of g c (told-tells g.H.Host c.args.self.now told)) (c.in-Ok.ensures.core (Class c.args.to c.args.of) refl refl)
+    (λ told. class-of g c (told-tells g.H.Host c.args.self.now told)) (c.in-Ok.ensures.here.core (Class c.args.to c.args.of) refl refl)
 
 pub returns-in-Ok-clause-name : goal.returns-in-Ok-clause-name
 returns-in-Ok-clause-name g c =
@@ -77,11 +77,11 @@ pub returns-in-Ok-clause-fit : goal.returns-in-Ok-clause-fit
 returns-in-Ok-clause-fit g c =
     let n = c.load.new.self in
     record {
-      sound = c.put_word.ensures.sound;
-      ready = subst (λ (t : Told). IsReady t) (sym (told-of g c)) (ready-class (loom_told g.H.Host n) c.args.to c.args.of (object_at (core_of n.pager.levels.parts) (disk_of g.H.Host n.pager.levels.disk.host.now n.pager.levels.disk.rest) ((core_of n.pager.levels.parts).entries c.in-Ok.s.0) c.in-Ok.ensures.loaded.at)
-          (thinned-ready (loom_told g.H.Host c.args.self.now) (loom_told g.H.Host n) c.in-Ok.ensures.thinned c.requires.fit.ready) (λ told. c.in-Ok.ensures.loaded.object (told-tells g.H.Host n told)));
-      lender = c.put_word.ensures.lender ∙ c.in-Ok.ensures.lender;
-      outside = c.put_word.ensures.outside ∙ c.in-Ok.ensures.outside;
+      sound = c.put_word.ensures.leaves.sound;
+      ready = subst (λ (t : Told). IsReady t) (sym (told-of g c)) (ready-class (loom_told g.H.Host n) c.args.to c.args.of (object_at (core_of n.pager.levels.parts) (disk_of g.H.Host n.pager.levels.disk.host.now n.pager.levels.disk.rest) ((core_of n.pager.levels.parts).entries c.in-Ok.s.0) c.in-Ok.ensures.here.loaded.at)
+          (thinned-ready (loom_told g.H.Host c.args.self.now) (loom_told g.H.Host n) c.in-Ok.ensures.thinned c.requires.fit.ready) (λ told. c.in-Ok.ensures.here.loaded.object (told-tells g.H.Host n told)));
+      lender = c.put_word.ensures.leaves.lender ∙ c.in-Ok.ensures.leaves.lender;
+      outside = c.put_word.ensures.leaves.outside ∙ c.in-Ok.ensures.leaves.outside;
     }
 
 pub returns-in-Err-clause-access : goal.returns-in-Err-clause-access
@@ -90,7 +90,7 @@ returns-in-Err-clause-access g c = refused-is (loom_told g.H.Host c.args.self.no
 pub returns-in-Ok-clause-own : goal.returns-in-Ok-clause-own
 returns-in-Ok-clause-own g c =
     let m = c.args.self.now in
-    steady-sparing g.H.Host m c.load.new.self c.put_word.new.self (name_at ((loom_told g.H.Host m).regs c.args.of)) c.in-Ok.s _ c.in-Ok.ensures.own c.put_word.ensures.steady c.in-Ok.ensures.sound.kept.parts.core c.put_word.ensures.sound.kept.parts.core (ap (λ (t : Told). t.bounds) c.put_word.ensures.told)
+    steady-sparing g.H.Host m c.load.new.self c.put_word.new.self (name_at ((loom_told g.H.Host m).regs c.args.of)) c.in-Ok.s _ c.in-Ok.ensures.own c.put_word.ensures.steady c.load.new.self.pager.levels.whole.parts.core c.put_word.new.self.pager.levels.whole.parts.core (ap (λ (t : Told). t.bounds) c.put_word.ensures.told)
 
 pub returns-in-Err-clause-own : goal.returns-in-Err-clause-own
 returns-in-Err-clause-own g c = sparing-err g.H.Host c.args.self.now c.load.new.self (name_at ((loom_told g.H.Host c.args.self.now).regs c.args.of)) c.in-Err.f c.in-Err.ensures.own

@@ -16,9 +16,9 @@ loop-i-preserved g c =
     record {
       told = regs-then (loom_told g.H.Host c.args.self.now) (loom_told g.H.Host c.loop-i.self) (loom_told g.H.Host c.put_word.new.self) _ i.told c.put_word.ensures.told;
       none = numbers-then c.loop-i.i c.new.result (pos 0) (loom_told g.H.Host c.loop-i.self).regs (loom_told g.H.Host c.put_word.new.self).regs c.new.ensures i.none (ap (λ (z : Told). z.regs) c.put_word.ensures.told);
-      sound = c.put_word.ensures.sound;
-      lender = c.put_word.ensures.lender ∙ i.lender;
-      outside = c.put_word.ensures.outside ∙ i.outside;
+      sound = c.put_word.ensures.leaves.sound;
+      lender = c.put_word.ensures.leaves.lender ∙ i.lender;
+      outside = c.put_word.ensures.leaves.outside ∙ i.outside;
     }
 
 pub returns-clause-none : goal.returns-clause-none

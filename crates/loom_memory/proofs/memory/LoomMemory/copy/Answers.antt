@@ -18,11 +18,11 @@ returns-clause-told g c = c.put_word.ensures.told ∙ ap (λ (v : Value). record
 
 pub returns-clause-fit : goal.returns-clause-fit
 returns-clause-fit g c = record {
-  sound = c.put_word.ensures.sound;
+  sound = c.put_word.ensures.leaves.sound;
   ready = λ ready. subst (λ (t : Told). IsReady t) (sym (returns-clause-told g c))
       (ready-put (loom_told g.H.Host c.args.self.now) c.args.to ((loom_told g.H.Host c.args.self.now).regs c.args.from) (λ k e told. (ready.whole told).rooted c.args.from k e) ready);
-  lender = c.put_word.ensures.lender;
-  outside = c.put_word.ensures.outside;
+  lender = c.put_word.ensures.leaves.lender;
+  outside = c.put_word.ensures.leaves.outside;
 }
 
 pub returns-clause-steady : goal.returns-clause-steady

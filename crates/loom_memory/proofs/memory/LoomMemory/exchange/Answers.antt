@@ -20,6 +20,7 @@ use Rattle.loom_memory.proofs.SwapLaws.{named-now, record-there, both-held, swap
 use Rattle.loom_memory.proofs.OwingLaws.{exact-swapped}
 use Rattle.loom_memory.specs.Residents.{fetched}
 use Rattle.loom_memory.proofs.DeadLaws.{thin-off}
+use Rattle.loom_memory.proofs.EffectLaws.{lost-by}
 use Rattle.loom_memory.proofs.memory.LoomMemory.exchange.Goals as goal
 
 first-short : {H : Type 0} (host : Ghosts H) (m : LoomMemory H host) (of i : ℕ) → IsSound host m → IsReady (loom_told host m) → IsRef ((loom_told host m).regs of) → i ≡ of → i < 24 → IsNamed host m m of (slice_index_or m.regs i 0)
@@ -30,67 +31,73 @@ away-of {H} host m of i sound away same low = ap (λ (w : ℕ). place_of ((core_
 
 pub used_entry-first-requires : goal.used_entry-first-requires
 unfolding core_of
-used_entry-first-requires g c = (first-short g.H.Host c.args.self.now c.args.a c.index.result c.requires.sound c.requires.ready c.requires.names.0 c.index.ensures.same c.index.ensures.within).used
+used_entry-first-requires g c = (first-short g.H.Host c.args.self.now c.args.a c.index.result c.requires.fit.sound c.requires.fit.ready c.requires.names.0 c.index.ensures.same c.index.ensures.within).used
 
 pub used_entry-second-requires : goal.used_entry-second-requires
 unfolding core_of
-used_entry-second-requires g c = (first-short g.H.Host c.args.self.now c.args.b c.index-2.result c.requires.sound c.requires.ready c.requires.names.1 c.index-2.ensures.same c.index-2.ensures.within).used
+used_entry-second-requires g c = (first-short g.H.Host c.args.self.now c.args.b c.index-2.result c.requires.fit.sound c.requires.fit.ready c.requires.names.1 c.index-2.ensures.same c.index-2.ensures.within).used
 
 there : {H : Type 0} (host : Ghosts H) (m : LoomMemory H host) (of i : ℕ) → IsSound host m → IsReady (loom_told host m) → IsRef ((loom_told host m).regs of) → IsAway m of → i ≡ of → i < 24
     → IsTrue (host.tells Work) → is_some (disk_of host m.pager.levels.disk.host.now m.pager.levels.disk.rest ((core_of m.pager.levels.parts).entries (slice_index_or m.regs i 0)).name) ≡ true
 unfolding loom_told
 there {H} host m of i sound ready name away same low told =
     let named = first-short host m of i sound ready name same low in
-    record-there (host.tells Work) (core_of m.pager.levels.parts) (disk_of host m.pager.levels.disk.host.now m.pager.levels.disk.rest) m.ledger.next (slice_index_or m.regs i 0) told sound.kept.parts.core named.used (away-of host m of i sound away same low) (named.has told)
+    record-there (host.tells Work) (core_of m.pager.levels.parts) (disk_of host m.pager.levels.disk.host.now m.pager.levels.disk.rest) m.ledger.next (slice_index_or m.regs i 0) told m.pager.levels.whole.parts.core named.used (away-of host m of i sound away same low) (named.has told)
 
 pub swap-requires : goal.swap-requires
 unfolding core_of
 swap-requires g c =
     let m = c.args.self.now in
     record {
-      stands = both-held g.H.Host m.pager.levels.disk.host.now m.pager.levels.disk.rest c.used_entry-first.result.name c.used_entry-second.result.name c.a_disk_is_its_objects.ensures.objects c.requires.sound.over.stands
-          (λ told. ap (λ (n : ℕ). is_some (disk_of g.H.Host m.pager.levels.disk.host.now m.pager.levels.disk.rest n)) (ap (λ (e : Entry). e.name) c.used_entry-first.ensures) ∙ there g.H.Host m c.args.a c.index.result c.requires.sound c.requires.ready c.requires.names.0 c.requires.away.0 c.index.ensures.same c.index.ensures.within told)
-          (λ told. ap (λ (n : ℕ). is_some (disk_of g.H.Host m.pager.levels.disk.host.now m.pager.levels.disk.rest n)) (ap (λ (e : Entry). e.name) c.used_entry-second.ensures) ∙ there g.H.Host m c.args.b c.index-2.result c.requires.sound c.requires.ready c.requires.names.1 c.requires.away.1 c.index-2.ensures.same c.index-2.ensures.within told);
+      stands = both-held g.H.Host m.pager.levels.disk.host.now m.pager.levels.disk.rest c.used_entry-first.result.name c.used_entry-second.result.name c.a_disk_is_its_objects.ensures.objects c.requires.fit.sound.over.stands
+          (λ told. ap (λ (n : ℕ). is_some (disk_of g.H.Host m.pager.levels.disk.host.now m.pager.levels.disk.rest n)) (ap (λ (e : Entry). e.name) c.used_entry-first.ensures) ∙ there g.H.Host m c.args.a c.index.result c.requires.fit.sound c.requires.fit.ready c.requires.names.0 c.requires.away.0 c.index.ensures.same c.index.ensures.within told)
+          (λ told. ap (λ (n : ℕ). is_some (disk_of g.H.Host m.pager.levels.disk.host.now m.pager.levels.disk.rest n)) (ap (λ (e : Entry). e.name) c.used_entry-second.ensures) ∙ there g.H.Host m c.args.b c.index-2.result c.requires.fit.sound c.requires.fit.ready c.requires.names.1 c.requires.away.1 c.index-2.ensures.same c.index-2.ensures.within told);
     }
 
 pub returns-in-Ok-clause-swapped : goal.returns-in-Ok-clause-swapped
 unfolding loom_told core_of
 returns-in-Ok-clause-swapped g c =
     let m = c.args.self.now in
-    let one = first-short g.H.Host m c.args.a c.index.result c.requires.sound c.requires.ready c.requires.names.0 c.index.ensures.same c.index.ensures.within in
-    let two = first-short g.H.Host m c.args.b c.index-2.result c.requires.sound c.requires.ready c.requires.names.1 c.index-2.ensures.same c.index-2.ensures.within in
-    swapped-is g.H.Host m c.swap.new.self.host.now c.swap.new.self.rest (slice_index_or m.regs c.index.result 0) (slice_index_or m.regs c.index-2.result 0) c.args.a c.args.b c.requires.sound one two
-    (away-of g.H.Host m c.args.a c.index.result c.requires.sound c.requires.away.0 c.index.ensures.same c.index.ensures.within) (away-of g.H.Host m c.args.b c.index-2.result c.requires.sound c.requires.away.1 c.index-2.ensures.same c.index-2.ensures.within)
+    let one = first-short g.H.Host m c.args.a c.index.result c.requires.fit.sound c.requires.fit.ready c.requires.names.0 c.index.ensures.same c.index.ensures.within in
+    let two = first-short g.H.Host m c.args.b c.index-2.result c.requires.fit.sound c.requires.fit.ready c.requires.names.1 c.index-2.ensures.same c.index-2.ensures.within in
+    swapped-is g.H.Host m c.swap.new.self.host.now c.swap.new.self.rest (slice_index_or m.regs c.index.result 0) (slice_index_or m.regs c.index-2.result 0) c.args.a c.args.b c.requires.fit.sound one two
+    (away-of g.H.Host m c.args.a c.index.result c.requires.fit.sound c.requires.away.0 c.index.ensures.same c.index.ensures.within) (away-of g.H.Host m c.args.b c.index-2.result c.requires.fit.sound c.requires.away.1 c.index-2.ensures.same c.index-2.ensures.within)
     c.swap.ensures.work c.swap.ensures.room (swaps-as g.H.Host m.pager.levels.disk.host.now c.swap.new.self.host.now m.pager.levels.disk.rest c.swap.new.self.rest _ _ c.used_entry-first.result.name c.used_entry-second.result.name (ap (λ (e : Entry). e.name) c.used_entry-first.ensures) (ap (λ (e : Entry). e.name) c.used_entry-second.ensures) c.in-Ok.ensures.exchanged)
 
-pub returns-in-Ok-clause-sound : goal.returns-in-Ok-clause-sound
-unfolding core_of
-returns-in-Ok-clause-sound g c =
-    let m = c.args.self.now in
-    let one = first-short g.H.Host m c.args.a c.index.result c.requires.sound c.requires.ready c.requires.names.0 c.index.ensures.same c.index.ensures.within in
-    let two = first-short g.H.Host m c.args.b c.index-2.result c.requires.sound c.requires.ready c.requires.names.1 c.index-2.ensures.same c.index-2.ensures.within in
-    record {
-      kept = c.requires.sound.kept;
-      over = swapped-over g.H.Host m c.swap.new.self.host.now c.swap.new.self.rest (slice_index_or m.regs c.index.result 0) (slice_index_or m.regs c.index-2.result 0) c.requires.sound one.used two.used
-          (away-of g.H.Host m c.args.a c.index.result c.requires.sound c.requires.away.0 c.index.ensures.same c.index.ensures.within) (away-of g.H.Host m c.args.b c.index-2.result c.requires.sound c.requires.away.1 c.index-2.ensures.same c.index-2.ensures.within)
-          c.swap.ensures.room c.swap.ensures.held (swaps-as g.H.Host m.pager.levels.disk.host.now c.swap.new.self.host.now m.pager.levels.disk.rest c.swap.new.self.rest _ _ c.used_entry-first.result.name c.used_entry-second.result.name (ap (λ (e : Entry). e.name) c.used_entry-first.ensures) (ap (λ (e : Entry). e.name) c.used_entry-second.ensures) c.in-Ok.ensures.exchanged);
-      soon = c.requires.sound.soon;
-      exact = exact-swapped g.H.Host m.pager.levels.parts m.pager.levels.disk.host.now c.swap.new.self.host.now m.pager.levels.disk.rest c.swap.new.self.rest m.ledger.next (slice_index_or m.regs c.index.result 0) (slice_index_or m.regs c.index-2.result 0) c.used_entry-first.result.name c.used_entry-second.result.name c.requires.sound.exact one.used two.used
-          (away-of g.H.Host m c.args.a c.index.result c.requires.sound c.requires.away.0 c.index.ensures.same c.index.ensures.within) (away-of g.H.Host m c.args.b c.index-2.result c.requires.sound c.requires.away.1 c.index-2.ensures.same c.index-2.ensures.within)
-          (ap (λ (e : Entry). e.name) c.used_entry-first.ensures) (ap (λ (e : Entry). e.name) c.used_entry-second.ensures)
-          (λ told. ap (λ (n : ℕ). is_some (disk_of g.H.Host m.pager.levels.disk.host.now m.pager.levels.disk.rest n)) (ap (λ (e : Entry). e.name) c.used_entry-first.ensures) ∙ there g.H.Host m c.args.a c.index.result c.requires.sound c.requires.ready c.requires.names.0 c.requires.away.0 c.index.ensures.same c.index.ensures.within told)
-          (λ told. ap (λ (n : ℕ). is_some (disk_of g.H.Host m.pager.levels.disk.host.now m.pager.levels.disk.rest n)) (ap (λ (e : Entry). e.name) c.used_entry-second.ensures) ∙ there g.H.Host m c.args.b c.index-2.result c.requires.sound c.requires.ready c.requires.names.1 c.requires.away.1 c.index-2.ensures.same c.index-2.ensures.within told)
-          c.in-Ok.ensures.swapped;
-      thin = thin-off g.H.Host _ refl;
-    }
+pub returns-in-Ok-clause-leaves : goal.returns-in-Ok-clause-leaves
+unfolding core_of loom_outside fetched
+returns-in-Ok-clause-leaves g c = record {
+  sound =
+      let m = c.args.self.now in
+      let one = first-short g.H.Host m c.args.a c.index.result c.requires.fit.sound c.requires.fit.ready c.requires.names.0 c.index.ensures.same c.index.ensures.within in
+      let two = first-short g.H.Host m c.args.b c.index-2.result c.requires.fit.sound c.requires.fit.ready c.requires.names.1 c.index-2.ensures.same c.index-2.ensures.within in
+      record {
+        kept = c.requires.fit.sound.kept;
+        over = swapped-over g.H.Host m c.swap.new.self.host.now c.swap.new.self.rest (slice_index_or m.regs c.index.result 0) (slice_index_or m.regs c.index-2.result 0) c.requires.fit.sound one.used two.used
+            (away-of g.H.Host m c.args.a c.index.result c.requires.fit.sound c.requires.away.0 c.index.ensures.same c.index.ensures.within) (away-of g.H.Host m c.args.b c.index-2.result c.requires.fit.sound c.requires.away.1 c.index-2.ensures.same c.index-2.ensures.within)
+            c.swap.ensures.room c.swap.ensures.held (swaps-as g.H.Host m.pager.levels.disk.host.now c.swap.new.self.host.now m.pager.levels.disk.rest c.swap.new.self.rest _ _ c.used_entry-first.result.name c.used_entry-second.result.name (ap (λ (e : Entry). e.name) c.used_entry-first.ensures) (ap (λ (e : Entry). e.name) c.used_entry-second.ensures) c.in-Ok.ensures.exchanged);
+        soon = c.requires.fit.sound.soon;
+        exact = exact-swapped g.H.Host m.pager.levels.parts m.pager.levels.disk.host.now c.swap.new.self.host.now m.pager.levels.disk.rest c.swap.new.self.rest m.ledger.next (slice_index_or m.regs c.index.result 0) (slice_index_or m.regs c.index-2.result 0) c.used_entry-first.result.name c.used_entry-second.result.name c.requires.fit.sound.exact one.used two.used
+            (away-of g.H.Host m c.args.a c.index.result c.requires.fit.sound c.requires.away.0 c.index.ensures.same c.index.ensures.within) (away-of g.H.Host m c.args.b c.index-2.result c.requires.fit.sound c.requires.away.1 c.index-2.ensures.same c.index-2.ensures.within)
+            (ap (λ (e : Entry). e.name) c.used_entry-first.ensures) (ap (λ (e : Entry). e.name) c.used_entry-second.ensures)
+            (λ told. ap (λ (n : ℕ). is_some (disk_of g.H.Host m.pager.levels.disk.host.now m.pager.levels.disk.rest n)) (ap (λ (e : Entry). e.name) c.used_entry-first.ensures) ∙ there g.H.Host m c.args.a c.index.result c.requires.fit.sound c.requires.fit.ready c.requires.names.0 c.requires.away.0 c.index.ensures.same c.index.ensures.within told)
+            (λ told. ap (λ (n : ℕ). is_some (disk_of g.H.Host m.pager.levels.disk.host.now m.pager.levels.disk.rest n)) (ap (λ (e : Entry). e.name) c.used_entry-second.ensures) ∙ there g.H.Host m c.args.b c.index-2.result c.requires.fit.sound c.requires.fit.ready c.requires.names.1 c.requires.away.1 c.index-2.ensures.same c.index-2.ensures.within told)
+            c.in-Ok.ensures.swapped;
+        thin = thin-off g.H.Host _ refl;
+      };
+  fetches = refl;
+  lender = c.swap.ensures.same_host;
+  outside = work-outside g.H.Host c.args.self.now.pager.levels.disk.host.now c.swap.new.self.host.now c.swap.ensures.work;
+}
 
-pub returns-in-Ok-clause-outside : goal.returns-in-Ok-clause-outside
-unfolding loom_outside
-returns-in-Ok-clause-outside g c = work-outside g.H.Host c.args.self.now.pager.levels.disk.host.now c.swap.new.self.host.now c.swap.ensures.work
-
-pub returns-in-Err-clause-outside : goal.returns-in-Err-clause-outside
-unfolding loom_outside
-returns-in-Err-clause-outside g c = c.refuse.ensures.outside ∙ work-outside g.H.Host c.args.self.now.pager.levels.disk.host.now c.swap.new.self.host.now c.swap.ensures.work
+pub returns-in-Err-clause-leaves : goal.returns-in-Err-clause-leaves
+unfolding loom_outside fetched
+returns-in-Err-clause-leaves g c = record {
+  sound = lost-by c.in-Err.f c.refusal_of-f.result c.refuse.result _ c.refusal_of-f.ensures c.refuse.ensures.result;
+  fetches = c.refuse.ensures.brings;
+  lender = c.refuse.ensures.lender ∙ c.swap.ensures.same_host;
+  outside = c.refuse.ensures.outside ∙ work-outside g.H.Host c.args.self.now.pager.levels.disk.host.now c.swap.new.self.host.now c.swap.ensures.work;
+}
 
 pub returns-in-Err-clause-err : goal.returns-in-Err-clause-err
 unfolding loom_told
@@ -100,18 +107,6 @@ returns-in-Err-clause-err g c =
     (either-purge g.H.Host m.pager.levels.disk.host.now c.swap.new.self.host.now _ c.used_entry-first.result.name c.used_entry-second.result.name c.in-Err.f c.in-Err.ensures.fault)
     c.refusal_of-f.ensures c.refuse.ensures.told c.refuse.ensures.result c.refuse.ensures.later tt refl
 
-pub returns-in-Ok-clause-fetches : goal.returns-in-Ok-clause-fetches
-unfolding fetched
-returns-in-Ok-clause-fetches g c = refl
-
 pub returns-in-Ok-clause-cached : goal.returns-in-Ok-clause-cached
 unfolding loom_told
 returns-in-Ok-clause-cached g c = refl
-
-pub returns-in-Ok-clause-brings : goal.returns-in-Ok-clause-brings
-unfolding fetched
-returns-in-Ok-clause-brings g c = refl
-
-pub returns-in-Err-clause-brings : goal.returns-in-Err-clause-brings
-unfolding fetched
-returns-in-Err-clause-brings g c = c.refuse.ensures.brings

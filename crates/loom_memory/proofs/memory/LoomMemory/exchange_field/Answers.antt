@@ -25,7 +25,8 @@ use Rattle.purger.proofs.MarkLaws.{Kept-trans, within-marks}
 use Rattle.loom_memory.proofs.MindLaws.{marks-keep}
 use Rattle.loom_memory.proofs.MindLaws.{came-remains, stored-came}
 use Rattle.loom_memory.proofs.LivingLaws.{thin-exchanged}
-use Rattle.loom_memory.proofs.OverLaws.{kept-whole, over_parts}
+use Rattle.loom_memory.proofs.OverLaws.{over_parts}
+use Rattle.leaf_lambda.specs.Whole.{IsWhole}
 use Rattle.loom_memory.proofs.WholeLaws.{recount-whole, store-whole}
 use Rattle.loom_memory.proofs.memory.LoomMemory.exchange_field.Goals as goal
 use Rattle.loom_memory.proofs.memory.LoomMemory.exchange_field.Given as given
@@ -33,14 +34,14 @@ use Rattle.loom_memory.proofs.memory.LoomMemory.exchange_field.Given as given
 pub raise_word-requires-clause-used : goal.raise_word-requires-clause-used
 raise_word-requires-clause-used g c = λ is.
     let m = c.args.self.now in
-    outside-used (core_of m.pager.levels.parts) (slice_index_or m.regs c.index.result 0) c.requires.sound.kept.parts.core
-    (register-held (core_of m.pager.levels.parts) m.regs m.pager.pinned c.index.result (slice_index_or m.regs c.index.result 0) (kept-rooted m.pager.levels.parts m.regs m.pager.pinned m.ledger c.requires.sound.kept) (old-there m.regs c.index.result c.index.result c.index.result refl refl c.index.ensures.within c.requires.sound.kept.many) is)
+    outside-used (core_of m.pager.levels.parts) (slice_index_or m.regs c.index.result 0) c.args.self.now.pager.levels.whole.parts.core
+    (register-held (core_of m.pager.levels.parts) m.regs m.pager.pinned c.index.result (slice_index_or m.regs c.index.result 0) (kept-rooted m.pager.levels.parts m.regs m.pager.pinned m.ledger m.pager.levels.whole c.requires.sound.kept) (old-there m.regs c.index.result c.index.result c.index.result refl refl c.index.ensures.within c.requires.sound.kept.many) is)
 
 pub put_field-requires-clause-light : goal.put_field-requires-clause-light
 put_field-requires-clause-light g c = λ t.
     let m = c.args.self.now in
     let q = c.raise_word.new.p in
-    few-held (core_of q) m.regs m.pager.pinned t (kept-rooted q m.regs m.pager.pinned m.ledger (recount-kept m.pager.levels.parts q m.regs m.pager.pinned m.ledger c.requires.sound.kept c.raise_word.ensures.parts c.raise_word.ensures.recount c.raise_word.ensures.segment)) c.requires.sound.kept.many
+    few-held (core_of q) m.regs m.pager.pinned t (kept-rooted q m.regs m.pager.pinned m.ledger (recount-whole m.pager.levels.parts q m.pager.levels.whole c.raise_word.ensures.parts c.raise_word.ensures.recount) (recount-kept m.pager.levels.parts q m.regs m.pager.pinned m.ledger m.pager.levels.whole c.requires.sound.kept c.raise_word.ensures.parts c.raise_word.ensures.recount c.raise_word.ensures.segment)) c.requires.sound.kept.many
 
 pub put_field-requires-clause-there : goal.put_field-requires-clause-there
 put_field-requires-clause-there g c = (c.requires.there.0, recount-at (core_of c.args.self.now.pager.levels.parts) (core_of c.raise_word.new.p) c.args.s.0 c.args.at.place c.args.i c.requires.there.0 c.raise_word.ensures.recount c.requires.there.1)
@@ -49,7 +50,7 @@ pub put_field-requires-clause-held : goal.put_field-requires-clause-held
 put_field-requires-clause-held g c = λ is.
     let m = c.args.self.now in
     let q = c.raise_word.new.p in
-    register-held (core_of q) m.regs m.pager.pinned c.index.result (slice_index_or m.regs c.index.result 0) (kept-rooted q m.regs m.pager.pinned m.ledger (recount-kept m.pager.levels.parts q m.regs m.pager.pinned m.ledger c.requires.sound.kept c.raise_word.ensures.parts c.raise_word.ensures.recount c.raise_word.ensures.segment))
+    register-held (core_of q) m.regs m.pager.pinned c.index.result (slice_index_or m.regs c.index.result 0) (kept-rooted q m.regs m.pager.pinned m.ledger (recount-whole m.pager.levels.parts q m.pager.levels.whole c.raise_word.ensures.parts c.raise_word.ensures.recount) (recount-kept m.pager.levels.parts q m.regs m.pager.pinned m.ledger m.pager.levels.whole c.requires.sound.kept c.raise_word.ensures.parts c.raise_word.ensures.recount c.raise_word.ensures.segment))
     (old-there m.regs c.index.result c.index.result c.index.result refl refl c.index.ensures.within c.requires.sound.kept.many) is
 
 pub put_field-requires-clause-some : goal.put_field-requires-clause-some
@@ -68,11 +69,21 @@ note_gone-requires-clause-used g c = λ is.
 place-one : (g : given.Over) (c : goal.After-note_gone g) → place_of ((core_of c.raise_word.new.p).entries c.args.s.0).state ≡ Some c.args.at.place
 place-one g c = recount-place (core_of c.args.self.now.pager.levels.parts) (core_of c.raise_word.new.p) c.args.s.0 c.raise_word.ensures.recount ∙ c.requires.there.1.place
 
+whole-one : (g : given.Over) (c : goal.After-note_gone g) → IsWhole c.raise_word.new.p
+whole-one g c = let l = c.args.self.now.pager.levels in recount-whole l.parts c.raise_word.new.p l.whole c.raise_word.ensures.parts c.raise_word.ensures.recount
+
+whole-two : (g : given.Over) (c : goal.After-note_gone g) → IsWhole c.put_field.new.p
+whole-two g c =
+    let l = c.args.self.now.pager.levels in
+    let entry = c.put_field.ensures.entry in
+    store-whole c.raise_word.new.p c.put_field.new.p c.args.s.0 c.args.at.place (whole-one g c) c.put_field.ensures.parts c.put_field.ensures.within
+    (recount-place (core_of l.parts) (core_of c.raise_word.new.p) c.args.s.0 c.raise_word.ensures.recount ∙ c.requires.there.1.place) (ap (λ (e : Entry). place_of e.state) entry) (ap (λ (e : Entry). e.name) entry)
+
 kept-one : (g : given.Over) (c : goal.After-note_gone g) → IsKept c.raise_word.new.p c.args.self.now.regs c.args.self.now.pager.pinned c.args.self.now.ledger
-kept-one g c = let m = c.args.self.now in recount-kept m.pager.levels.parts c.raise_word.new.p m.regs m.pager.pinned m.ledger c.requires.sound.kept c.raise_word.ensures.parts c.raise_word.ensures.recount c.raise_word.ensures.segment
+kept-one g c = let m = c.args.self.now in recount-kept m.pager.levels.parts c.raise_word.new.p m.regs m.pager.pinned m.ledger m.pager.levels.whole c.requires.sound.kept c.raise_word.ensures.parts c.raise_word.ensures.recount c.raise_word.ensures.segment
 
 kept-two : (g : given.Over) (c : goal.After-note_gone g) → IsKept c.put_field.new.p c.args.self.now.regs c.args.self.now.pager.pinned c.args.self.now.ledger
-kept-two g c = let m = c.args.self.now in stored-kept c.raise_word.new.p c.put_field.new.p m.regs m.pager.pinned m.ledger c.args.s.0 c.args.at.place (kept-one g c) c.put_field.ensures.parts c.put_field.ensures.within (place-one g c) (ap (λ (e : Entry). place_of e.state) c.put_field.ensures.entry) (ap (λ (e : Entry). e.name) c.put_field.ensures.entry) c.put_field.ensures.size
+kept-two g c = let m = c.args.self.now in stored-kept c.raise_word.new.p c.put_field.new.p m.regs m.pager.pinned m.ledger c.args.s.0 c.args.at.place (whole-one g c) (kept-one g c) c.put_field.ensures.parts c.put_field.ensures.within (place-one g c) (ap (λ (e : Entry). place_of e.state) c.put_field.ensures.entry) (ap (λ (e : Entry). e.name) c.put_field.ensures.entry) c.put_field.ensures.size
 
 over-one : (g : given.Over) (c : goal.After-note_gone g) → IsOver g.H.Host c.args.self.now.pager.levels.disk.host.now c.args.self.now.pager.levels.disk.rest (core_of c.raise_word.new.p) c.args.self.now.ledger
 over-one g c = let m = c.args.self.now in recount-over g.H.Host m.pager.levels.disk.host.now m.pager.levels.disk.rest (core_of m.pager.levels.parts) (core_of c.raise_word.new.p) m.ledger c.requires.sound.over c.raise_word.ensures.recount
@@ -81,10 +92,10 @@ over-two : (g : given.Over) (c : goal.After-note_gone g) → IsOver g.H.Host c.a
 over-two g c = let m = c.args.self.now in stored-over g.H.Host m.pager.levels.disk.host.now m.pager.levels.disk.rest (core_of c.raise_word.new.p) (core_of c.put_field.new.p) m.ledger c.args.s.0 (over-one g c) c.put_field.ensures.within (ap fresh_by c.put_field.ensures.entry) c.put_field.ensures.backed c.put_field.ensures.valued
 
 told-one : (g : given.Over) (c : goal.After-note_gone g) → told_of g.H.Host c.args.self.now.pager.levels.disk.host.now c.args.self.now.pager.levels.disk.rest (core_of c.raise_word.new.p) c.args.self.now.regs c.args.self.now.pager.pinned c.args.self.now.ledger ≡ told_of g.H.Host c.args.self.now.pager.levels.disk.host.now c.args.self.now.pager.levels.disk.rest (core_of c.args.self.now.pager.levels.parts) c.args.self.now.regs c.args.self.now.pager.pinned c.args.self.now.ledger
-told-one g c = let m = c.args.self.now in recount-told g.H.Host m.pager.levels.disk.host.now m.pager.levels.disk.rest m.pager.levels.parts c.raise_word.new.p m.regs m.pager.pinned m.ledger c.requires.sound.kept c.requires.sound.over c.raise_word.ensures.parts c.raise_word.ensures.recount
+told-one g c = let m = c.args.self.now in recount-told g.H.Host m.pager.levels.disk.host.now m.pager.levels.disk.rest m.pager.levels.parts c.raise_word.new.p m.regs m.pager.pinned m.ledger m.pager.levels.whole c.requires.sound.kept c.requires.sound.over c.raise_word.ensures.parts c.raise_word.ensures.recount
 
 told-three : (g : given.Over) (c : goal.After-note_gone g) → told_of g.H.Host c.args.self.now.pager.levels.disk.host.now c.args.self.now.pager.levels.disk.rest (core_of c.lower_word.new.p) c.args.self.now.regs c.args.self.now.pager.pinned c.args.self.now.ledger ≡ told_of g.H.Host c.args.self.now.pager.levels.disk.host.now c.args.self.now.pager.levels.disk.rest (core_of c.put_field.new.p) c.args.self.now.regs c.args.self.now.pager.pinned c.args.self.now.ledger
-told-three g c = let m = c.args.self.now in recount-told g.H.Host m.pager.levels.disk.host.now m.pager.levels.disk.rest c.put_field.new.p c.lower_word.new.p m.regs m.pager.pinned m.ledger (kept-two g c) (over-two g c) c.lower_word.ensures.parts c.lower_word.ensures.recount
+told-three g c = let m = c.args.self.now in recount-told g.H.Host m.pager.levels.disk.host.now m.pager.levels.disk.rest c.put_field.new.p c.lower_word.new.p m.regs m.pager.pinned m.ledger (whole-two g c) (kept-two g c) (over-two g c) c.lower_word.ensures.parts c.lower_word.ensures.recount
 
 -- ---- what they leave
 
@@ -94,7 +105,7 @@ exact-one g c =
     let w = slice_index_or m.regs c.index.result 0 in
     subst (λ (u : Value). IsExact g.H.Host c.raise_word.new.p m.pager.levels.disk.host.now m.pager.levels.disk.rest m.ledger.next (u ∷ [])) (sym (recount-meant (core_of m.pager.levels.parts) (core_of c.raise_word.new.p) w c.raise_word.ensures.recount))
     (exact-raised g.H.Host m.pager.levels.parts c.raise_word.new.p m.pager.levels.disk.host.now m.pager.levels.disk.rest m.ledger.next w c.requires.sound.exact
-    (λ is. outside-used (core_of m.pager.levels.parts) w c.requires.sound.kept.parts.core (register-held (core_of m.pager.levels.parts) m.regs m.pager.pinned c.index.result w (kept-rooted m.pager.levels.parts m.regs m.pager.pinned m.ledger c.requires.sound.kept) (old-there m.regs c.index.result c.index.result c.index.result refl refl c.index.ensures.within c.requires.sound.kept.many) is))
+    (λ is. outside-used (core_of m.pager.levels.parts) w c.args.self.now.pager.levels.whole.parts.core (register-held (core_of m.pager.levels.parts) m.regs m.pager.pinned c.index.result w (kept-rooted m.pager.levels.parts m.regs m.pager.pinned m.ledger m.pager.levels.whole c.requires.sound.kept) (old-there m.regs c.index.result c.index.result c.index.result refl refl c.index.ensures.within c.requires.sound.kept.many) is))
     c.raise_word.ensures.raised c.raise_word.ensures.same)
 
 exchanged-of : (g : given.Over) (c : goal.After-note_gone g) → IsTrue (g.H.Host.tells Work) → IsExchange (core_of c.raise_word.new.p) (core_of c.put_field.new.p) (disk_of g.H.Host c.args.self.now.pager.levels.disk.host.now c.args.self.now.pager.levels.disk.rest) c.args.s.0 c.args.at.place c.args.i
@@ -126,10 +137,6 @@ exact-two g c =
     let q = c.raise_word.new.p in
     exact-exchanged g.H.Host q c.put_field.new.p m.pager.levels.disk.host.now m.pager.levels.disk.rest m.ledger.next c.args.s.0 c.args.at.place c.args.i (meant (core_of m.pager.levels.parts).entries [] 0 c.args.old) (meant (core_of q).entries [] 0 (slice_index_or m.regs c.index.result 0)) (exact-one g c) (exchanged-of g c)
 
-pub returns-clause-outside : goal.returns-clause-outside
-unfolding loom_outside
-returns-clause-outside g c = refl
-
 pub returns-clause-stored : goal.returns-clause-stored
 unfolding loom_told
 returns-clause-stored g c =
@@ -142,7 +149,7 @@ returns-clause-stored g c =
     let used = placed-used ((core_of q).entries s).state p (place-one g c) in
     let there = held-at (core_of q) disk ((core_of q).entries s).name s p (core.found s used) (place-one g c) in
     stored-between _ _ _ _ (SetField c.args.of c.args.i c.args.from) (told-one g c) (told-three g c)
-    (stored-is g.H.Host (over_parts m q (kept-whole q m.regs m.pager.pinned m.ledger (kept-one g c))) c.put_field.new.p (SetField c.args.of c.args.i c.args.from) c.args.of s p (kept-one g c) c.put_field.ensures.parts c.put_field.ensures.within (place-one g c)
+    (stored-is g.H.Host (over_parts m q (whole-one g c)) c.put_field.new.p (SetField c.args.of c.args.i c.args.from) c.args.of s p (kept-one g c) c.put_field.ensures.parts c.put_field.ensures.within (place-one g c)
     (ap (λ (e : Entry). place_of e.state) c.put_field.ensures.entry) (ap (λ (e : Entry). e.name) c.put_field.ensures.entry) (recount-mark (core_of m.pager.levels.parts) (core_of q) s c.raise_word.ensures.recount ∙ c.requires.gone) refl refl c.requires.word
     (λ told.
     stored-told (g.H.Host.tells Work) (core_of q) (core_of c.put_field.new.p) disk disk m.ledger.next c.args.of c.args.i c.args.from ((core_of q).entries s).name (λ r. meant (core_of q).entries [] 0 (word_in m.regs r)) (object_at (core_of q) disk ((core_of q).entries s) p) (meant (core_of q).entries [] 0 (slice_index_or m.regs c.index.result 0)) told
@@ -163,27 +170,32 @@ alive g c is =
       recount-name b d c.args.old c.lower_word.ensures.recount ∙ two.1 ∙ recount-name x a c.args.old c.raise_word.ensures.recount,
     )
 
-pub returns-clause-sound : goal.returns-clause-sound
-returns-clause-sound g c =
-    let m = c.args.self.now in
-    let old : meant (core_of c.put_field.new.p).entries [] 0 c.args.old ≡ meant (core_of m.pager.levels.parts).entries [] 0 c.args.old = meant-names (core_of m.pager.levels.parts).entries (core_of c.put_field.new.p).entries [] 0 c.args.old
-    (λ is. (c.put_field.ensures.within.live c.args.old (recount-used (core_of m.pager.levels.parts) (core_of c.raise_word.new.p) c.args.old c.raise_word.ensures.recount ∙ c.requires.used is)).1 ∙ recount-name (core_of m.pager.levels.parts) (core_of c.raise_word.new.p) c.args.old c.raise_word.ensures.recount) in
-    let kept_ = recount-kept c.put_field.new.p c.lower_word.new.p m.regs m.pager.pinned m.ledger (kept-two g c) c.lower_word.ensures.parts c.lower_word.ensures.recount c.lower_word.ensures.segment in
-    let exact_ = exact-lowered g.H.Host c.put_field.new.p c.lower_word.new.p m.pager.levels.disk.host.now m.pager.levels.disk.rest m.ledger.next c.args.old
-    (subst (λ (u : Value). IsExact g.H.Host c.put_field.new.p m.pager.levels.disk.host.now m.pager.levels.disk.rest m.ledger.next (u ∷ [])) (sym old) (exact-two g c))
-    (λ is. (c.put_field.ensures.within.live c.args.old (recount-used (core_of m.pager.levels.parts) (core_of c.raise_word.new.p) c.args.old c.raise_word.ensures.recount ∙ c.requires.used is)).0)
-    c.lower_word.ensures.lowered c.lower_word.ensures.same in
-    record {
-      kept = kept_;
-      over = recount-over g.H.Host m.pager.levels.disk.host.now m.pager.levels.disk.rest (core_of c.put_field.new.p) (core_of c.lower_word.new.p) m.ledger (over-two g c) c.lower_word.ensures.recount;
-      exact = exact_;
-      soon = c.requires.sound.soon;
-      thin = thin-exchanged g.H.Host m c.raise_word.new.p c.put_field.new.p c.lower_word.new.p _ c.note_gone.new.thinned c.args.s.0 c.args.at.place c.args.i c.args.old (meant (core_of m.pager.levels.parts).entries [] 0 c.args.old) (meant (core_of c.raise_word.new.p).entries [] 0 (slice_index_or m.regs c.index.result 0)) c.requires.sound kept_ exact_
-          (ap (λ (t : Told). t.regs) (returns-clause-stored g c).same) (ap (λ (t : Told). t.slots) (returns-clause-stored g c).same)
-          c.raise_word.ensures.parts.core (λ told. (c.raise_word.ensures.recount.stays (disk_of g.H.Host m.pager.levels.disk.host.now m.pager.levels.disk.rest) (c.requires.sound.over.backed told)).held)
-          (exchanged-of g c) (λ told. (c.lower_word.ensures.recount.stays (disk_of g.H.Host m.pager.levels.disk.host.now m.pager.levels.disk.rest) ((over-two g c).backed told)).held) refl
-          (λ is. (alive g c is)) (λ on. c.note_gone.ensures.was on) (λ on. c.note_gone.ensures.named on);
-    }
+pub returns-clause-leaves : goal.returns-clause-leaves
+unfolding loom_outside
+returns-clause-leaves g c = record {
+  sound =
+      let m = c.args.self.now in
+      let old : meant (core_of c.put_field.new.p).entries [] 0 c.args.old ≡ meant (core_of m.pager.levels.parts).entries [] 0 c.args.old = meant-names (core_of m.pager.levels.parts).entries (core_of c.put_field.new.p).entries [] 0 c.args.old
+      (λ is. (c.put_field.ensures.within.live c.args.old (recount-used (core_of m.pager.levels.parts) (core_of c.raise_word.new.p) c.args.old c.raise_word.ensures.recount ∙ c.requires.used is)).1 ∙ recount-name (core_of m.pager.levels.parts) (core_of c.raise_word.new.p) c.args.old c.raise_word.ensures.recount) in
+      let kept_ = recount-kept c.put_field.new.p c.lower_word.new.p m.regs m.pager.pinned m.ledger (whole-two g c) (kept-two g c) c.lower_word.ensures.parts c.lower_word.ensures.recount c.lower_word.ensures.segment in
+      let exact_ = exact-lowered g.H.Host c.put_field.new.p c.lower_word.new.p m.pager.levels.disk.host.now m.pager.levels.disk.rest m.ledger.next c.args.old
+      (subst (λ (u : Value). IsExact g.H.Host c.put_field.new.p m.pager.levels.disk.host.now m.pager.levels.disk.rest m.ledger.next (u ∷ [])) (sym old) (exact-two g c))
+      (λ is. (c.put_field.ensures.within.live c.args.old (recount-used (core_of m.pager.levels.parts) (core_of c.raise_word.new.p) c.args.old c.raise_word.ensures.recount ∙ c.requires.used is)).0)
+      c.lower_word.ensures.lowered c.lower_word.ensures.same in
+      record {
+        kept = kept_;
+        over = recount-over g.H.Host m.pager.levels.disk.host.now m.pager.levels.disk.rest (core_of c.put_field.new.p) (core_of c.lower_word.new.p) m.ledger (over-two g c) c.lower_word.ensures.recount;
+        exact = exact_;
+        soon = c.requires.sound.soon;
+        thin = thin-exchanged g.H.Host m c.raise_word.new.p c.put_field.new.p c.lower_word.new.p _ c.note_gone.new.thinned c.args.s.0 c.args.at.place c.args.i c.args.old (meant (core_of m.pager.levels.parts).entries [] 0 c.args.old) (meant (core_of c.raise_word.new.p).entries [] 0 (slice_index_or m.regs c.index.result 0)) c.requires.sound kept_ exact_
+            (ap (λ (t : Told). t.regs) (returns-clause-stored g c).same) (ap (λ (t : Told). t.slots) (returns-clause-stored g c).same)
+            c.raise_word.ensures.parts.core (λ told. (c.raise_word.ensures.recount.stays (disk_of g.H.Host m.pager.levels.disk.host.now m.pager.levels.disk.rest) (c.requires.sound.over.backed told)).held)
+            (exchanged-of g c) (λ told. (c.lower_word.ensures.recount.stays (disk_of g.H.Host m.pager.levels.disk.host.now m.pager.levels.disk.rest) ((over-two g c).backed told)).held) refl
+            (λ is. (alive g c is)) (λ on. c.note_gone.ensures.was on) (λ on. c.note_gone.ensures.named on);
+      };
+  lender = refl;
+  outside = refl;
+}
 
 pub returns-clause-resting : goal.returns-clause-resting
 returns-clause-resting g c =

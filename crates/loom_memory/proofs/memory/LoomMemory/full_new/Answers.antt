@@ -8,8 +8,8 @@ use Rattle.loom_memory.proofs.memory.LoomMemory.full_new.Goals as goal
 pub returns-clause-err : goal.returns-clause-err
 returns-clause-err g c =
     let m = c.args.self.now in
-    full-making g.H.Host m (loom_told g.H.Host c.refuse.new.self) c.args.words c.need_beside-need.result c.refuse.result c.requires.sound c.requires.ready
-    (λ told. (next-absent g.H.Host m.pager.levels.parts m.pager.levels.disk.host.now m.pager.levels.disk.rest m.ledger.next c.requires.sound.exact told).0)
+    full-making g.H.Host m (loom_told g.H.Host c.refuse.new.self) c.args.words c.need_beside-need.result c.refuse.result c.requires.fit.sound c.requires.fit.ready
+    (λ told. (next-absent g.H.Host m.pager.levels.parts m.pager.levels.disk.host.now m.pager.levels.disk.rest m.ledger.next c.requires.fit.sound.exact told).0)
     (subst (λ n. IsNeedBeside (core_of m.pager.levels.parts) m.pager.pinned n c.args.words c.need_beside-need.result) (sym c.requires.next) c.need_beside-need.ensures)
     (c.requires.unfit c.need_beside-need.result c.need_beside-need.ensures) c.refuse.ensures.told c.refuse.ensures.result c.refuse.ensures.later
 

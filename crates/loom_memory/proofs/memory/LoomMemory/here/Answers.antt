@@ -29,35 +29,31 @@ register-is : (g : given.Over) (c : goal.After-chunks_never_overlap g) → (loom
 unfolding loom_told
 register-is g c = ap (meant (core_of c.args.self.now.pager.levels.parts).entries [] 0) (sym c.word_of-w.ensures.word)
 
-pub returns-then-is_some-clause-loaded : goal.returns-then-is_some-clause-loaded
-unfolding loom_told
-returns-then-is_some-clause-loaded g c =
-    let n = c.args.self.now in
-    let there = there-of g c in
-    record {
-      at = there.0;
-      place = there.1;
-      object = λ told. object-loaded (g.H.Host.tells Work) (core_of n.pager.levels.parts) (disk_of g.H.Host n.pager.levels.disk.host.now n.pager.levels.disk.rest) n.ledger.next c.word_of-w.result there.0 ((loom_told g.H.Host n).regs c.args.of) told c.requires.sound.kept.parts.core there.1 (register-is g c);
-    }
-
-pub returns-then-is_some-clause-core : goal.returns-then-is_some-clause-core
+pub returns-then-is_some-clause-here : goal.returns-then-is_some-clause-here
 unfolding loom_told core_of chunk_at
-returns-then-is_some-clause-core g c =
-    let n = c.args.self.now in
-    let there = there-of g c in
-    core-has (loom_told g.H.Host n) (loom_told g.H.Host n) (told-bounds g.H.Host n).0 c.args.of (quiet-same g.H.Host n) (told-bounds g.H.Host n).1
-    (λ told.
-    let words = named-words (g.H.Host.tells Work) (core_of n.pager.levels.parts) (disk_of g.H.Host n.pager.levels.disk.host.now n.pager.levels.disk.rest) n.ledger.next c.word_of-w.result there.0 ((loom_told g.H.Host n).regs c.args.of) told c.requires.sound.kept.parts.core there.1 (register-is g c) in
-    let most = body-fits (core_of n.pager.levels.parts) (chunks_of n.pager.levels.parts.segment) (free_of n.pager.levels.parts.segment) (size_of n.pager.levels.parts.segment) c.word_of-w.result there.0 c.requires.sound.kept.parts.core refl c.chunks_never_overlap.ensures there.1 in
-    let size = c.requires.sound.kept.size in
-    let core = (told-bounds g.H.Host n).2 in
-    omega (arith, words, most, size, core))
-
-pub returns-then-is_some-clause-bounded : goal.returns-then-is_some-clause-bounded
-returns-then-is_some-clause-bounded g c = bounded-at g.H.Host c.args.self.now c.requires.sound c.chunks_never_overlap.ensures
-
-pub returns-then-is_some-clause-there : goal.returns-then-is_some-clause-there
-returns-then-is_some-clause-there g c = resident-at g.H.Host c.args.self.now c.args.of c.word_of-w.result c.requires.sound c.requires.name c.word_of-w.ensures.word ∙ ap (λ (x : Option ℕ). is_some x) (there-of g c).1
+returns-then-is_some-clause-here g c = record {
+  word = c.word_of-w.ensures.word;
+  loaded =
+      let n = c.args.self.now in
+      let there = there-of g c in
+      record {
+        at = there.0;
+        place = there.1;
+        object = λ told. object-loaded (g.H.Host.tells Work) (core_of n.pager.levels.parts) (disk_of g.H.Host n.pager.levels.disk.host.now n.pager.levels.disk.rest) n.ledger.next c.word_of-w.result there.0 ((loom_told g.H.Host n).regs c.args.of) told c.args.self.now.pager.levels.whole.parts.core there.1 (register-is g c);
+      };
+  core =
+      let n = c.args.self.now in
+      let there = there-of g c in
+      core-has (loom_told g.H.Host n) (loom_told g.H.Host n) (told-bounds g.H.Host n).0 c.args.of (quiet-same g.H.Host n) (told-bounds g.H.Host n).1
+      (λ told.
+      let words = named-words (g.H.Host.tells Work) (core_of n.pager.levels.parts) (disk_of g.H.Host n.pager.levels.disk.host.now n.pager.levels.disk.rest) n.ledger.next c.word_of-w.result there.0 ((loom_told g.H.Host n).regs c.args.of) told c.args.self.now.pager.levels.whole.parts.core there.1 (register-is g c) in
+      let most = body-fits (core_of n.pager.levels.parts) (chunks_of n.pager.levels.parts.segment) (free_of n.pager.levels.parts.segment) (size_of n.pager.levels.parts.segment) c.word_of-w.result there.0 c.args.self.now.pager.levels.whole.parts.core refl c.chunks_never_overlap.ensures there.1 in
+      let size = c.requires.sound.kept.size in
+      let core = (told-bounds g.H.Host n).2 in
+      omega (arith, words, most, size, core));
+  bounded = bounded-at g.H.Host c.args.self.now c.requires.sound c.chunks_never_overlap.ensures;
+  there = resident-at g.H.Host c.args.self.now c.args.of c.word_of-w.result c.requires.sound c.requires.name c.word_of-w.ensures.word ∙ ap (λ (x : Option ℕ). is_some x) (there-of g c).1;
+}
 
 pub returns-clause-leaf : goal.returns-clause-leaf
 unfolding core_of

@@ -35,10 +35,10 @@ returns-then-word_of-w-clause-told g c =
 
 pub returns-clause-fit : goal.returns-clause-fit
 returns-clause-fit g c = record {
-  sound = c.put_number.ensures.sound;
+  sound = c.put_number.ensures.leaves.sound;
   ready = λ ready. subst (λ (t : Told). IsReady t) (sym (returns-clause-told g c)) (ready-put (loom_told g.H.Host c.args.self.now) c.args.to (Int c.args.v) (λ k e told. (cc)) ready);
-  lender = c.put_number.ensures.lender;
-  outside = c.put_number.ensures.outside;
+  lender = c.put_number.ensures.leaves.lender;
+  outside = c.put_number.ensures.leaves.outside;
 }
 
 pub returns-clause-steady : goal.returns-clause-steady

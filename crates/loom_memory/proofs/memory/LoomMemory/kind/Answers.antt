@@ -22,7 +22,7 @@ use Rattle.loom_memory.proofs.memory.LoomMemory.kind.Given as given
 
 pub used_entry-requires : goal.used_entry-requires
 unfolding core_of
-used_entry-requires g c = placed-used ((core_of c.load.new.self.pager.levels.parts).entries c.in-Ok.s.0).state c.in-Ok.ensures.loaded.at c.in-Ok.ensures.loaded.place
+used_entry-requires g c = placed-used ((core_of c.load.new.self.pager.levels.parts).entries c.in-Ok.s.0).state c.in-Ok.ensures.here.loaded.at c.in-Ok.ensures.here.loaded.place
 
 kind-same : (g : given.Over) (c : goal.After-used_entry g) → ((core_of c.load.new.self.pager.levels.parts).entries c.in-Ok.s.0).kind ≡ c.used_entry.result.kind
 unfolding core_of
@@ -32,21 +32,21 @@ pub returns-in-Ok-clause-access : goal.returns-in-Ok-clause-access
 returns-in-Ok-clause-access g c =
     let n = c.load.new.self in
     let e = (core_of n.pager.levels.parts).entries c.in-Ok.s.0 in
-    let there = c.in-Ok.ensures.loaded in
+    let there = c.in-Ok.ensures.here.loaded in
     read-freed (loom_told g.H.Host c.args.self.now) (loom_told g.H.Host n) (KindOf c.args.of) c.args.of OfKind c.used_entry.result.kind refl refl refl c.in-Ok.ensures.thinned
     (λ told. ap (λ (o : Option Object). option_and_then (λ k. Some (OfKind k)) (option_and_then (λ (o : Object). Some (kind_of o.body)) o)) (there.object (told-tells g.H.Host c.args.self.now told))
     ∙ ap (λ (k : Kind). Some (OfKind k)) (kind-is (core_of n.pager.levels.parts).entries (fields_there (disk_of g.H.Host n.pager.levels.disk.host.now n.pager.levels.disk.rest e.name)) ((core_of n.pager.levels.parts).chunks there.at).words e.kind e.len ∙ kind-same g c))
-    (c.in-Ok.ensures.core (KindOf c.args.of) refl refl)
+    (c.in-Ok.ensures.here.core (KindOf c.args.of) refl refl)
 
 pub returns-in-Err-clause-access : goal.returns-in-Err-clause-access
 returns-in-Err-clause-access g c = refused-is (loom_told g.H.Host c.args.self.now) (loom_told g.H.Host c.load.new.self) (KindOf c.args.of) OfKind c.in-Err.f (c.in-Err.ensures.err (KindOf c.args.of) refl refl tt)
 
 pub returns-in-Ok-clause-fit : goal.returns-in-Ok-clause-fit
 returns-in-Ok-clause-fit g c = record {
-  sound = c.in-Ok.ensures.sound;
+  sound = c.in-Ok.ensures.leaves.sound;
   ready = thinned-ready (loom_told g.H.Host c.args.self.now) (loom_told g.H.Host c.load.new.self) c.in-Ok.ensures.thinned c.requires.fit.ready;
-  lender = c.in-Ok.ensures.lender;
-  outside = c.in-Ok.ensures.outside;
+  lender = c.in-Ok.ensures.leaves.lender;
+  outside = c.in-Ok.ensures.leaves.outside;
 }
 
 pub returns-in-Ok-clause-own : goal.returns-in-Ok-clause-own

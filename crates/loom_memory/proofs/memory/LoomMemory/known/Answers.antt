@@ -14,8 +14,8 @@ returns-clause-name g c = name-came c.put_name.result (loom_told g.H.Host c.args
 
 pub returns-clause-fit : goal.returns-clause-fit
 returns-clause-fit g c = record {
-  sound = c.put_name.ensures.sound;
+  sound = c.put_name.ensures.leaves.sound;
   ready = ready-named c.put_name.result (loom_told g.H.Host c.args.self.now) (loom_told g.H.Host c.put_name.new.self) c.args.to c.args.name c.put_name.ensures.naming (λ told. (c.requires.may.heap told).0) c.requires.fit.ready;
-  lender = c.put_name.ensures.lender;
-  outside = c.put_name.ensures.outside;
+  lender = c.put_name.ensures.leaves.lender;
+  outside = c.put_name.ensures.leaves.outside;
 }

@@ -9,6 +9,8 @@ use Rattle.loom_memory.proofs.BringLaws.{read-name, sized-name}
 use Rattle.core_view.specs.Held.{Disk}
 use Rattle.loom_memory.proofs.BelowLaws.{leaf-own, tested-name}
 use Rattle.loom_memory.proofs.DamageLaws.{damage-name}
+use Rattle.delta_counts.proofs.LowerLaws.{ok-map}
+use Rattle.loom_memory.specs.Effects.{Reads}
 use Rattle.loom_memory.proofs.memory.LoomMemory.look.Goals as goal
 
 pub used_entry-name-requires : goal.used_entry-name-requires
@@ -19,7 +21,7 @@ pub look_up-requires-clause-there : goal.look_up-requires-clause-there
 unfolding loom_told core_of
 look_up-requires-clause-there g c = λ told none.
     let m = c.args.self.now in
-    leaf-there (g.H.Host.tells Work) (core_of m.pager.levels.parts) (disk_of g.H.Host m.pager.levels.disk.host.now m.pager.levels.disk.rest) m.ledger.next c.args.s.0 told c.requires.sound.kept.parts.core c.requires.leaf.0 c.requires.leaf.1 (c.requires.has told)
+    leaf-there (g.H.Host.tells Work) (core_of m.pager.levels.parts) (disk_of g.H.Host m.pager.levels.disk.host.now m.pager.levels.disk.rest) m.ledger.next c.args.s.0 told c.args.self.now.pager.levels.whole.parts.core c.requires.leaf.0 c.requires.leaf.1 (c.requires.has told)
     (ap (λ (e : Entry). disk_of g.H.Host m.pager.levels.disk.host.now m.pager.levels.disk.rest e.name) (sym c.used_entry-name.ensures) ∙ none)
 
 pub returns-clause-sized : goal.returns-clause-sized
@@ -27,14 +29,14 @@ unfolding core_of
 returns-clause-sized g c =
     let m = c.args.self.now in
     let n = c.look_up.new.self in
-    sized-name c.look_up.result (g.H.Host.tells Work) (disk_of g.H.Host n.pager.levels.disk.host.now n.pager.levels.disk.rest) m.pager.levels.parts n.pager.levels.parts c.args.s.0 c.used_entry-name.result.name (ap (λ (e : Entry). e.name) c.used_entry-name.ensures) c.look_up.ensures.parts c.look_up.ensures.sized
+    sized-name c.look_up.result (g.H.Host.tells Work) (disk_of g.H.Host n.pager.levels.disk.host.now n.pager.levels.disk.rest) m.pager.levels.parts n.pager.levels.parts c.args.s.0 c.used_entry-name.result.name (ap (λ (e : Entry). e.name) c.used_entry-name.ensures) (ok-map c.look_up.result (λ (x : Reads g.H.Host c.args.self.now c.look_up.new.self). x.parts) c.look_up.ensures.reads) c.look_up.ensures.sized
 
 pub returns-clause-record : goal.returns-clause-record
 unfolding core_of
 returns-clause-record g c =
     let m = c.args.self.now in
     let n = c.look_up.new.self in
-    read-name c.look_up.result (g.H.Host.tells Work) n.buf (disk_of g.H.Host n.pager.levels.disk.host.now n.pager.levels.disk.rest) m.pager.levels.parts n.pager.levels.parts c.args.s.0 c.used_entry-name.result.name (ap (λ (e : Entry). e.name) c.used_entry-name.ensures) c.look_up.ensures.parts c.look_up.ensures.record
+    read-name c.look_up.result (g.H.Host.tells Work) n.buf (disk_of g.H.Host n.pager.levels.disk.host.now n.pager.levels.disk.rest) m.pager.levels.parts n.pager.levels.parts c.args.s.0 c.used_entry-name.result.name (ap (λ (e : Entry). e.name) c.used_entry-name.ensures) (ok-map c.look_up.result (λ (x : Reads g.H.Host c.args.self.now c.look_up.new.self). x.parts) c.look_up.ensures.reads) c.look_up.ensures.record
 
 pub look_up-requires-clause-own : goal.look_up-requires-clause-own
 unfolding loom_told core_of
@@ -42,7 +44,7 @@ look_up-requires-clause-own g c = λ told.
     let m = c.args.self.now in
     let disk : Disk = disk_of g.H.Host m.pager.levels.disk.host.now m.pager.levels.disk.rest in
     subst (λ (e : Entry). (loom_told g.H.Host m).heap.at e.name ≡ disk e.name) (sym c.used_entry-name.ensures)
-    (leaf-own (g.H.Host.tells Work) (core_of m.pager.levels.parts) disk m.ledger.next c.args.s.0 told c.requires.sound.kept.parts.core c.requires.leaf.0 c.requires.leaf.1)
+    (leaf-own (g.H.Host.tells Work) (core_of m.pager.levels.parts) disk m.ledger.next c.args.s.0 told c.args.self.now.pager.levels.whole.parts.core c.requires.leaf.0 c.requires.leaf.1)
 
 pub returns-clause-tested : goal.returns-clause-tested
 unfolding core_of

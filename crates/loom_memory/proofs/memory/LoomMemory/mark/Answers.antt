@@ -24,34 +24,34 @@ name-of : (g : given.Over) (c : goal.After-note_mark g) → (loom_told g.H.Host 
 unfolding loom_told
 name-of g c =
     let n = c.load.new.self in
-    ap (meant (core_of n.pager.levels.parts).entries [] 0) (sym c.in-Ok.ensures.word)
-    ∙ meant-short (core_of n.pager.levels.parts).entries [] 0 c.in-Ok.s.0 (c.in-Ok.ensures.sound.kept.parts.core.short c.in-Ok.s.0 (placed-used ((core_of n.pager.levels.parts).entries c.in-Ok.s.0).state c.in-Ok.ensures.loaded.at c.in-Ok.ensures.loaded.place))
+    ap (meant (core_of n.pager.levels.parts).entries [] 0) (sym c.in-Ok.ensures.here.word)
+    ∙ meant-short (core_of n.pager.levels.parts).entries [] 0 c.in-Ok.s.0 (c.load.new.self.pager.levels.whole.parts.core.short c.in-Ok.s.0 (placed-used ((core_of n.pager.levels.parts).entries c.in-Ok.s.0).state c.in-Ok.ensures.here.loaded.at c.in-Ok.ensures.here.loaded.place))
 
 pub note_mark-requires-clause-there : goal.note_mark-requires-clause-there
-note_mark-requires-clause-there g c = (c.in-Ok.ensures.loaded.at, c.in-Ok.ensures.loaded.place)
+note_mark-requires-clause-there g c = (c.in-Ok.ensures.here.loaded.at, c.in-Ok.ensures.here.loaded.place)
 
 pub returns-in-Ok-clause-access : goal.returns-in-Ok-clause-access
 returns-in-Ok-clause-access g c =
     mark-freed (loom_told g.H.Host c.args.self.now) (loom_told g.H.Host c.load.new.self) (loom_told g.H.Host c.note_mark.new.self) c.args.r ((core_of c.load.new.self.pager.levels.parts).entries c.in-Ok.s.0).name c.in-Ok.ensures.thinned c.note_mark.ensures.marked (name-of g c)
-    (c.in-Ok.ensures.core (Mark c.args.r) refl refl)
+    (c.in-Ok.ensures.here.core (Mark c.args.r) refl refl)
 
 pub returns-in-Ok-clause-marked : goal.returns-in-Ok-clause-marked
 returns-in-Ok-clause-marked g c = marked-name (loom_told g.H.Host c.args.self.now) (loom_told g.H.Host c.load.new.self) (loom_told g.H.Host c.note_mark.new.self) c.args.r ((core_of c.load.new.self.pager.levels.parts).entries c.in-Ok.s.0).name c.in-Ok.ensures.thinned c.note_mark.ensures.marked (name-of g c)
 
 pub returns-in-Ok-clause-fit : goal.returns-in-Ok-clause-fit
 returns-in-Ok-clause-fit g c = record {
-  sound = c.note_mark.ensures.sound;
+  sound = c.note_mark.ensures.leaves.sound;
   ready = ready-mark (loom_told g.H.Host c.load.new.self) (loom_told g.H.Host c.note_mark.new.self) c.args.r ((core_of c.load.new.self.pager.levels.parts).entries c.in-Ok.s.0).name c.note_mark.ensures.marked (name-of g c)
       (thinned-ready (loom_told g.H.Host c.args.self.now) (loom_told g.H.Host c.load.new.self) c.in-Ok.ensures.thinned c.requires.fit.ready);
-  lender = c.note_mark.ensures.lender ∙ c.in-Ok.ensures.lender;
-  outside = c.note_mark.ensures.outside ∙ c.in-Ok.ensures.outside;
+  lender = c.note_mark.ensures.leaves.lender ∙ c.in-Ok.ensures.leaves.lender;
+  outside = c.note_mark.ensures.leaves.outside ∙ c.in-Ok.ensures.leaves.outside;
 }
 
 pub returns-in-Err-clause-access : goal.returns-in-Err-clause-access
 returns-in-Err-clause-access g c = refused-is (loom_told g.H.Host c.args.self.now) (loom_told g.H.Host c.load.new.self) (Mark c.args.r) (λ _. Nothing) c.in-Err.f (c.in-Err.ensures.err (Mark c.args.r) refl refl tt)
 
 pub returns-in-Ok-clause-own : goal.returns-in-Ok-clause-own
-returns-in-Ok-clause-own g c = changed-sparing g.H.Host c.args.self.now c.load.new.self c.note_mark.new.self (name_at ((loom_told g.H.Host c.args.self.now).regs c.args.r)) c.in-Ok.s _ c.in-Ok.ensures.own c.note_mark.ensures.resting c.in-Ok.ensures.sound.kept.parts.core c.note_mark.ensures.sound.kept.parts.core
+returns-in-Ok-clause-own g c = changed-sparing g.H.Host c.args.self.now c.load.new.self c.note_mark.new.self (name_at ((loom_told g.H.Host c.args.self.now).regs c.args.r)) c.in-Ok.s _ c.in-Ok.ensures.own c.note_mark.ensures.resting c.load.new.self.pager.levels.whole.parts.core c.note_mark.new.self.pager.levels.whole.parts.core
 
 pub returns-in-Err-clause-own : goal.returns-in-Err-clause-own
 returns-in-Err-clause-own g c = refused-change g.H.Host c.args.self.now c.load.new.self (name_at ((loom_told g.H.Host c.args.self.now).regs c.args.r)) c.in-Err.f c.in-Err.ensures.own
@@ -70,7 +70,7 @@ returns-in-Ok-clause-minds g c =
     let s = (core_of u.pager.levels.parts).entries c.in-Ok.s.0 in
     let n = name_at ((loom_told g.H.Host m).regs c.args.r) in
     let name : s.name ≡ n = ap name_at (sym (name-of g c)) ∙ ap (λ (z : Told). name_at (z.regs c.args.r)) c.in-Ok.ensures.thinned.same in
-    minds-mark g.H.Host m u c.note_mark.new.self n c.in-Ok.ensures.own.minds c.in-Ok.ensures.sound.kept.parts.core c.note_mark.ensures.sound.kept.parts.core c.note_mark.ensures.resting.remains c.note_mark.ensures.none c.note_mark.ensures.resting.idle.fetches c.in-Ok.ensures.own.reached.there
+    minds-mark g.H.Host m u c.note_mark.new.self n c.in-Ok.ensures.own.minds c.load.new.self.pager.levels.whole.parts.core c.note_mark.new.self.pager.levels.whole.parts.core c.note_mark.ensures.resting.remains c.note_mark.ensures.none c.note_mark.ensures.resting.idle.fetches c.in-Ok.ensures.own.reached.there
     (c.note_mark.ensures.cached ∙ ap (λ k. with_mark (loom_told g.H.Host u).cache (Some k)) name)
 
 pub returns-in-Ok-clause-brings : goal.returns-in-Ok-clause-brings

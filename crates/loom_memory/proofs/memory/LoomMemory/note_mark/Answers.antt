@@ -34,33 +34,34 @@ kept-of g c =
     let k = c.refresh.new.k in
     subst (λ (z : Cache). IsKeptCache no_names z (with_mark z (Some (x.entries c.args.s.0).name)) (cache_of (core_of c.set_mark.new.p) (found k.rows) c.args.s.0 k.begun)) c.refresh.ensures.cache
     (subst (λ (y : Core). IsKeptCache no_names (cache_of x (found k.rows) k.mark k.begun) (with_mark (cache_of x (found k.rows) k.mark k.begun) (Some (x.entries c.args.s.0).name)) (cache_of y (found k.rows) c.args.s.0 k.begun)) (sym c.set_mark.ensures.core)
-    (marking-kept x (found k.rows) k.mark c.args.s.0 k.begun c.requires.sound.kept.parts.core (used-of g c) c.refresh.ensures.fresh))
+    (marking-kept x (found k.rows) k.mark c.args.s.0 k.begun c.args.self.now.pager.levels.whole.parts.core (used-of g c) c.refresh.ensures.fresh))
 
 pub returns-clause-marked : goal.returns-clause-marked
 unfolding loom_told
 returns-clause-marked g c =
     let m = c.args.self.now in
     record {
-      same = mark-told g.H.Host m.pager.levels.disk.host.now m.pager.levels.disk.rest (core_of m.pager.levels.parts) (core_of c.set_mark.new.p) m.regs m.pager.pinned m.ledger (record c.refresh.new.k { mark = c.args.s.0 }) c.args.s.0 c.requires.sound.kept.parts.core (used-of g c) c.set_mark.ensures.core (caching g c) c.requires.sound.over.backed;
+      same = mark-told g.H.Host m.pager.levels.disk.host.now m.pager.levels.disk.rest (core_of m.pager.levels.parts) (core_of c.set_mark.new.p) m.regs m.pager.pinned m.ledger (record c.refresh.new.k { mark = c.args.s.0 }) c.args.s.0 c.args.self.now.pager.levels.whole.parts.core (used-of g c) c.set_mark.ensures.core (caching g c) c.requires.sound.over.backed;
       cache = kept-of g c;
     }
 
-pub returns-clause-sound : goal.returns-clause-sound
-returns-clause-sound g c =
-    let m = c.args.self.now in
-    let k = c.refresh.new.k in
-    record {
-      kept = mark-kept m.pager.levels.parts c.set_mark.new.p m.regs m.pager.pinned m.ledger (record k { mark = c.args.s.0 }) c.args.s.0 c.requires.there.0 c.requires.sound.kept c.set_mark.ensures.parts c.requires.there.1 c.set_mark.ensures.core c.set_mark.ensures.segment (caching g c)
-          (subst (λ (y : Core). IsCached y (found k.rows) c.args.s.0) (sym c.set_mark.ensures.core) (marking-cached (core_of m.pager.levels.parts) (found k.rows) k.mark c.args.s.0 c.requires.sound.kept.parts.core (used-of g c) c.refresh.ensures.fresh c.refresh.ensures.cached));
-      over = mark-over g.H.Host m.pager.levels.disk.host.now m.pager.levels.disk.rest (core_of m.pager.levels.parts) (core_of c.set_mark.new.p) m.ledger (record k { mark = c.args.s.0 }) c.args.s.0 c.requires.sound.kept.parts.core (used-of g c) c.set_mark.ensures.core (caching g c) c.requires.sound.over;
-      soon = subst (λ (k : Ledger). m.due ≤ k.next + k.entries / 8) (sym c.refresh.ensures.ledger) c.requires.sound.soon;
-      exact = mark-exact g.H.Host m.pager.levels.parts c.set_mark.new.p m.pager.levels.disk.host.now m.pager.levels.disk.rest m.ledger (record k { mark = c.args.s.0 }) c.args.s.0 c.requires.sound.kept.parts.core (used-of g c) c.set_mark.ensures.parts c.set_mark.ensures.core (caching g c) c.requires.sound.exact;
-      thin = thin-of g.H.Host c.args.self.now _ c.requires.sound.thin (λ on. on) (ap (λ (t : Told). t.heap) (returns-clause-marked g c).same) (ap (λ (t : Told). t.regs) (returns-clause-marked g c).same) (ap (λ (t : Told). t.slots) (returns-clause-marked g c).same);
-    }
-
-pub returns-clause-outside : goal.returns-clause-outside
+pub returns-clause-leaves : goal.returns-clause-leaves
 unfolding loom_outside
-returns-clause-outside g c = refl
+returns-clause-leaves g c = record {
+  sound =
+      let m = c.args.self.now in
+      let k = c.refresh.new.k in
+      record {
+        kept = mark-kept m.pager.levels.parts c.set_mark.new.p m.regs m.pager.pinned m.ledger (record k { mark = c.args.s.0 }) c.args.s.0 c.requires.there.0 m.pager.levels.whole c.requires.sound.kept c.set_mark.ensures.parts c.requires.there.1 c.set_mark.ensures.core c.set_mark.ensures.segment (caching g c)
+            (subst (λ (y : Core). IsCached y (found k.rows) c.args.s.0) (sym c.set_mark.ensures.core) (marking-cached (core_of m.pager.levels.parts) (found k.rows) k.mark c.args.s.0 c.args.self.now.pager.levels.whole.parts.core (used-of g c) c.refresh.ensures.fresh c.refresh.ensures.cached));
+        over = mark-over g.H.Host m.pager.levels.disk.host.now m.pager.levels.disk.rest (core_of m.pager.levels.parts) (core_of c.set_mark.new.p) m.ledger (record k { mark = c.args.s.0 }) c.args.s.0 c.args.self.now.pager.levels.whole.parts.core (used-of g c) c.set_mark.ensures.core (caching g c) c.requires.sound.over;
+        soon = subst (λ (k : Ledger). m.due ≤ k.next + k.entries / 8) (sym c.refresh.ensures.ledger) c.requires.sound.soon;
+        exact = mark-exact g.H.Host m.pager.levels.parts c.set_mark.new.p m.pager.levels.disk.host.now m.pager.levels.disk.rest m.ledger (record k { mark = c.args.s.0 }) c.args.s.0 c.args.self.now.pager.levels.whole.parts.core (used-of g c) c.set_mark.ensures.parts c.set_mark.ensures.core (caching g c) c.requires.sound.exact;
+        thin = thin-of g.H.Host c.args.self.now _ c.requires.sound.thin (λ on. on) (ap (λ (t : Told). t.heap) (returns-clause-marked g c).same) (ap (λ (t : Told). t.regs) (returns-clause-marked g c).same) (ap (λ (t : Told). t.slots) (returns-clause-marked g c).same);
+      };
+  lender = refl;
+  outside = refl;
+}
 
 pub returns-clause-resting : goal.returns-clause-resting
 unfolding fetched
@@ -75,7 +76,7 @@ returns-clause-cached g c =
     let x = core_of c.args.self.now.pager.levels.parts in
     let k = c.refresh.new.k in
     ap (λ (y : Core). cache_of y (found k.rows) c.args.s.0 k.begun) c.set_mark.ensures.core
-    ∙ marking-exact x (found k.rows) k.mark c.args.s.0 k.begun c.requires.sound.kept.parts.core (used-of g c) c.refresh.ensures.fresh
+    ∙ marking-exact x (found k.rows) k.mark c.args.s.0 k.begun c.args.self.now.pager.levels.whole.parts.core (used-of g c) c.refresh.ensures.fresh
     ∙ ap (λ (z : Cache). with_mark z (Some (x.entries c.args.s.0).name)) c.refresh.ensures.cache
 
 pub returns-clause-none : goal.returns-clause-none

@@ -14,29 +14,31 @@ use Rattle.loom_memory.proofs.ReachLaws.{freed-open}
 use Rattle.loom_memory.proofs.memory.LoomMemory.open.Goals as goal
 
 pub unmark-requires-clause-used : goal.unmark-requires-clause-used
-unmark-requires-clause-used g c = placed-used ((core_of c.load.new.self.pager.levels.parts).entries c.in-Ok.s.0).state c.in-Ok.ensures.loaded.at c.in-Ok.ensures.loaded.place
+unmark-requires-clause-used g c = placed-used ((core_of c.load.new.self.pager.levels.parts).entries c.in-Ok.s.0).state c.in-Ok.ensures.here.loaded.at c.in-Ok.ensures.here.loaded.place
 
 pub returns-in-Ok-clause-thinned : goal.returns-in-Ok-clause-thinned
 returns-in-Ok-clause-thinned g c =
     let t = loom_told g.H.Host c.args.self.now in
     let u = loom_told g.H.Host c.load.new.self in
     let v = loom_told g.H.Host c.unmark.new.self in
-    thinned-trans t u v c.in-Ok.ensures.thinned (quiet-thinned u v c.unmark.ensures.quiet (thinned-ready t u c.in-Ok.ensures.thinned c.requires.ready))
+    thinned-trans t u v c.in-Ok.ensures.thinned (quiet-thinned u v c.unmark.ensures.quiet (thinned-ready t u c.in-Ok.ensures.thinned c.requires.fit.ready))
 
-pub returns-in-Ok-clause-word : goal.returns-in-Ok-clause-word
-returns-in-Ok-clause-word g c = c.in-Ok.ensures.word ∙ ap (λ (regs : List ℕ). word_in regs c.args.of) (sym c.unmark.ensures.regs)
-
-pub returns-in-Ok-clause-there : goal.returns-in-Ok-clause-there
-returns-in-Ok-clause-there g c = (c.in-Ok.ensures.loaded.at, c.unmark.ensures.place ∙ c.in-Ok.ensures.loaded.place)
+pub returns-in-Ok-clause-opened : goal.returns-in-Ok-clause-opened
+returns-in-Ok-clause-opened g c = record {
+  word = c.in-Ok.ensures.here.word ∙ ap (λ (regs : List ℕ). word_in regs c.args.of) (sym c.unmark.ensures.regs);
+  there = (c.in-Ok.ensures.here.loaded.at, c.unmark.ensures.place ∙ c.in-Ok.ensures.here.loaded.place);
+  unmarked = c.unmark.ensures.gone;
+  core = c.in-Ok.ensures.here.core;
+}
 
 pub returns-in-Ok-clause-own : goal.returns-in-Ok-clause-own
-returns-in-Ok-clause-own g c = changed-sparing g.H.Host c.args.self.now c.load.new.self c.unmark.new.self (name_at ((loom_told g.H.Host c.args.self.now).regs c.args.of)) c.in-Ok.s _ c.in-Ok.ensures.own c.unmark.ensures.resting c.in-Ok.ensures.sound.kept.parts.core c.unmark.ensures.sound.kept.parts.core
+returns-in-Ok-clause-own g c = changed-sparing g.H.Host c.args.self.now c.load.new.self c.unmark.new.self (name_at ((loom_told g.H.Host c.args.self.now).regs c.args.of)) c.in-Ok.s _ c.in-Ok.ensures.own c.unmark.ensures.resting c.load.new.self.pager.levels.whole.parts.core c.unmark.new.self.pager.levels.whole.parts.core
 
 pub returns-in-Err-clause-own : goal.returns-in-Err-clause-own
 returns-in-Err-clause-own g c = refused-change g.H.Host c.args.self.now c.load.new.self (name_at ((loom_told g.H.Host c.args.self.now).regs c.args.of)) c.in-Err.f c.in-Err.ensures.own
 
 pub returns-in-Ok-clause-cached : goal.returns-in-Ok-clause-cached
-returns-in-Ok-clause-cached g c = opened-keeps g.H.Host c.args.self.now c.load.new.self c.unmark.new.self c.args.of c.in-Ok.s.0 c.in-Ok.ensures.sound c.in-Ok.ensures.thinned c.requires.name c.in-Ok.ensures.word c.in-Ok.ensures.own.cached c.unmark.ensures.idle
+returns-in-Ok-clause-cached g c = opened-keeps g.H.Host c.args.self.now c.load.new.self c.unmark.new.self c.args.of c.in-Ok.s.0 c.in-Ok.ensures.leaves.sound c.in-Ok.ensures.thinned c.requires.name c.in-Ok.ensures.here.word c.in-Ok.ensures.own.cached c.unmark.ensures.idle
 
 pub returns-in-Ok-clause-minds : goal.returns-in-Ok-clause-minds
 returns-in-Ok-clause-minds g c =
@@ -44,7 +46,7 @@ returns-in-Ok-clause-minds g c =
     let u = c.load.new.self in
     let s = c.in-Ok.s.0 in
     let n = name_at ((loom_told g.H.Host m).regs c.args.of) in
-    minds-then g.H.Host m u c.unmark.new.self (IsBrought m u n) (λ k. k ≡ ((core_of u.pager.levels.parts).entries s).name) (λ k. k ≡ n) (λ k is. is.0) (λ k is. is ∙ entry-named g.H.Host m u c.args.of s c.in-Ok.ensures.sound c.in-Ok.ensures.thinned c.requires.name c.in-Ok.ensures.word) c.in-Ok.ensures.own.minds c.unmark.ensures.minds
+    minds-then g.H.Host m u c.unmark.new.self (IsBrought m u n) (λ k. k ≡ ((core_of u.pager.levels.parts).entries s).name) (λ k. k ≡ n) (λ k is. is.0) (λ k is. is ∙ entry-named g.H.Host m u c.args.of s c.in-Ok.ensures.leaves.sound c.in-Ok.ensures.thinned c.requires.name c.in-Ok.ensures.here.word) c.in-Ok.ensures.own.minds c.unmark.ensures.minds
 
 pub returns-in-Ok-clause-brings : goal.returns-in-Ok-clause-brings
 returns-in-Ok-clause-brings g c = brings-then c.args.self.now c.load.new.self c.unmark.new.self _ c.load.ensures.brings c.unmark.ensures.resting.idle.fetches

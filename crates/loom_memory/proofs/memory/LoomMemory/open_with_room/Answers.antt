@@ -15,20 +15,22 @@ use Rattle.loom_memory.proofs.ReachLaws.{freed-away, freed-open}
 use Rattle.loom_memory.proofs.memory.LoomMemory.open_with_room.Goals as goal
 
 pub unmark-requires-clause-used : goal.unmark-requires-clause-used
-unmark-requires-clause-used g c = placed-used ((core_of c.load_with_room.new.self.pager.levels.parts).entries c.in-Ok.s.0).state c.in-Ok.ensures.loaded.at c.in-Ok.ensures.loaded.place
+unmark-requires-clause-used g c = placed-used ((core_of c.load_with_room.new.self.pager.levels.parts).entries c.in-Ok.s.0).state c.in-Ok.ensures.here.loaded.at c.in-Ok.ensures.here.loaded.place
 
 pub returns-in-Ok-clause-thinned : goal.returns-in-Ok-clause-thinned
 returns-in-Ok-clause-thinned g c =
     let t = loom_told g.H.Host c.args.self.now in
     let u = loom_told g.H.Host c.load_with_room.new.self in
     let v = loom_told g.H.Host c.unmark.new.self in
-    thinned-trans t u v c.in-Ok.ensures.thinned (quiet-thinned u v c.unmark.ensures.quiet (thinned-ready t u c.in-Ok.ensures.thinned c.requires.ready))
+    thinned-trans t u v c.in-Ok.ensures.thins.thinned (quiet-thinned u v c.unmark.ensures.quiet (thinned-ready t u c.in-Ok.ensures.thins.thinned c.requires.fit.ready))
 
-pub returns-in-Ok-clause-word : goal.returns-in-Ok-clause-word
-returns-in-Ok-clause-word g c = c.in-Ok.ensures.word ∙ ap (λ (regs : List ℕ). word_in regs c.args.of) (sym c.unmark.ensures.regs)
-
-pub returns-in-Ok-clause-there : goal.returns-in-Ok-clause-there
-returns-in-Ok-clause-there g c = (c.in-Ok.ensures.loaded.at, c.unmark.ensures.place ∙ c.in-Ok.ensures.loaded.place)
+pub returns-in-Ok-clause-opened : goal.returns-in-Ok-clause-opened
+returns-in-Ok-clause-opened g c = record {
+  word = c.in-Ok.ensures.here.word ∙ ap (λ (regs : List ℕ). word_in regs c.args.of) (sym c.unmark.ensures.regs);
+  there = (c.in-Ok.ensures.here.loaded.at, c.unmark.ensures.place ∙ c.in-Ok.ensures.here.loaded.place);
+  unmarked = c.unmark.ensures.gone;
+  core = c.in-Ok.ensures.here.core;
+}
 
 pub returns-in-Ok-clause-spare : goal.returns-in-Ok-clause-spare
 returns-in-Ok-clause-spare g c = let same = c.unmark.ensures.spare in let was = c.in-Ok.ensures.spare in omega (arith, same, was)
@@ -38,16 +40,16 @@ returns-in-Ok-clause-searched g c =
     let m = c.args.self.now in
     let u = c.load_with_room.new.self in
     let load = c.in-Ok.ensures in
-    searched-change g.H.Host m u c.unmark.new.self (name_at ((loom_told g.H.Host m).regs c.args.of)) (load-searched g.H.Host m u c.args.of c.requires.sound load.sound c.requires.name load.there load.counted load.gentle load.idle load.minds)
-    c.unmark.ensures.resting load.sound.kept.parts.core c.unmark.ensures.sound.kept.parts.core
+    searched-change g.H.Host m u c.unmark.new.self (name_at ((loom_told g.H.Host m).regs c.args.of)) (load-searched g.H.Host m u c.args.of c.requires.fit.sound load.leaves.sound c.requires.name load.here.there load.counted (λ told leaf. (load.comes told leaf).gentle) load.idle load.thins.minds)
+    c.unmark.ensures.resting c.load_with_room.new.self.pager.levels.whole.parts.core c.unmark.new.self.pager.levels.whole.parts.core
 
 pub returns-in-Ok-clause-cached : goal.returns-in-Ok-clause-cached
 returns-in-Ok-clause-cached g c =
     let m = c.args.self.now in
     let u = c.load_with_room.new.self in
     let load = c.in-Ok.ensures in
-    opened-keeps g.H.Host m u c.unmark.new.self c.args.of c.in-Ok.s.0 load.sound load.thinned c.requires.name load.word
-    (load-searched g.H.Host m u c.args.of c.requires.sound load.sound c.requires.name load.there load.counted load.gentle load.idle load.minds).cached c.unmark.ensures.idle
+    opened-keeps g.H.Host m u c.unmark.new.self c.args.of c.in-Ok.s.0 load.leaves.sound load.thins.thinned c.requires.name load.here.word
+    (load-searched g.H.Host m u c.args.of c.requires.fit.sound load.leaves.sound c.requires.name load.here.there load.counted (λ told leaf. (load.comes told leaf).gentle) load.idle load.thins.minds).cached c.unmark.ensures.idle
 
 pub returns-in-Ok-clause-minds : goal.returns-in-Ok-clause-minds
 returns-in-Ok-clause-minds g c =
@@ -55,7 +57,7 @@ returns-in-Ok-clause-minds g c =
     let u = c.load_with_room.new.self in
     let s = c.in-Ok.s.0 in
     let n = name_at ((loom_told g.H.Host m).regs c.args.of) in
-    minds-then g.H.Host m u c.unmark.new.self (IsBrought m u n) (λ k. k ≡ ((core_of u.pager.levels.parts).entries s).name) (λ k. k ≡ n) (λ k is. is.0) (λ k is. is ∙ entry-named g.H.Host m u c.args.of s c.in-Ok.ensures.sound c.in-Ok.ensures.thinned c.requires.name c.in-Ok.ensures.word) c.in-Ok.ensures.minds c.unmark.ensures.minds
+    minds-then g.H.Host m u c.unmark.new.self (IsBrought m u n) (λ k. k ≡ ((core_of u.pager.levels.parts).entries s).name) (λ k. k ≡ n) (λ k is. is.0) (λ k is. is ∙ entry-named g.H.Host m u c.args.of s c.in-Ok.ensures.leaves.sound c.in-Ok.ensures.thins.thinned c.requires.name c.in-Ok.ensures.here.word) c.in-Ok.ensures.thins.minds c.unmark.ensures.minds
 
 pub returns-in-Ok-clause-brings : goal.returns-in-Ok-clause-brings
 returns-in-Ok-clause-brings g c = brings-then c.args.self.now c.load_with_room.new.self c.unmark.new.self _ c.load_with_room.ensures.brings c.unmark.ensures.resting.idle.fetches
@@ -64,7 +66,7 @@ pub returns-in-Ok-clause-freed : goal.returns-in-Ok-clause-freed
 returns-in-Ok-clause-freed g c =
     let m = c.args.self.now in
     let u = c.load_with_room.new.self in
-    freed-open g.H.Host m u c.unmark.new.self (name_at ((loom_told g.H.Host c.args.self.now).regs c.args.of)) (freed-away g.H.Host m u c.args.of c.requires.sound c.requires.name c.in-Ok.ensures.gone c.in-Ok.ensures.due c.in-Ok.ensures.flag) c.unmark.ensures.quiet c.unmark.ensures.due c.unmark.ensures.flag
+    freed-open g.H.Host m u c.unmark.new.self (name_at ((loom_told g.H.Host c.args.self.now).regs c.args.of)) (freed-away g.H.Host m u c.args.of c.requires.fit.sound c.requires.name (λ told leaf. (c.in-Ok.ensures.comes told leaf).gone) c.in-Ok.ensures.thins.due c.in-Ok.ensures.thins.flag) c.unmark.ensures.quiet c.unmark.ensures.due c.unmark.ensures.flag
 
 pub returns-in-Ok-clause-entries : goal.returns-in-Ok-clause-entries
 returns-in-Ok-clause-entries g c = λ lacks due. alive-quiet (loom_told g.H.Host c.load_with_room.new.self) (loom_told g.H.Host c.unmark.new.self) c.unmark.ensures.quiet (c.in-Ok.ensures.entries lacks due)

@@ -20,31 +20,31 @@ use Rattle.loom_memory.proofs.memory.LoomMemory.pin.Goals as goal
 use Rattle.loom_memory.proofs.memory.LoomMemory.pin.Given as given
 
 short-of : (g : given.Over) (c : goal.After-put_slot g) → is_short c.in-Ok.s.0 ≡ true
-short-of g c = c.in-Ok.ensures.sound.kept.parts.core.short c.in-Ok.s.0 (placed-used ((core_of c.load.new.self.pager.levels.parts).entries c.in-Ok.s.0).state c.in-Ok.ensures.loaded.at c.in-Ok.ensures.loaded.place)
+short-of g c = c.load.new.self.pager.levels.whole.parts.core.short c.in-Ok.s.0 (placed-used ((core_of c.load.new.self.pager.levels.parts).entries c.in-Ok.s.0).state c.in-Ok.ensures.here.loaded.at c.in-Ok.ensures.here.loaded.place)
 
 value-of : (g : given.Over) (c : goal.After-put_slot g) → (loom_told g.H.Host c.load.new.self).regs c.args.r ≡ meant (core_of c.load.new.self.pager.levels.parts).entries [] 0 c.in-Ok.s.0
 unfolding loom_told
-value-of g c = ap (meant (core_of c.load.new.self.pager.levels.parts).entries [] 0) (sym c.in-Ok.ensures.word)
+value-of g c = ap (meant (core_of c.load.new.self.pager.levels.parts).entries [] 0) (sym c.in-Ok.ensures.here.word)
 
 pub put_slot-requires-clause-body : goal.put_slot-requires-clause-body
-put_slot-requires-clause-body g c = λ some. (c.in-Ok.ensures.sound.kept.parts.core.short c.in-Ok.s.0 (placed-used ((core_of c.load.new.self.pager.levels.parts).entries c.in-Ok.s.0).state c.in-Ok.ensures.loaded.at c.in-Ok.ensures.loaded.place), (c.in-Ok.ensures.loaded.at, c.in-Ok.ensures.loaded.place))
+put_slot-requires-clause-body g c = λ some. (c.load.new.self.pager.levels.whole.parts.core.short c.in-Ok.s.0 (placed-used ((core_of c.load.new.self.pager.levels.parts).entries c.in-Ok.s.0).state c.in-Ok.ensures.here.loaded.at c.in-Ok.ensures.here.loaded.place), (c.in-Ok.ensures.here.loaded.at, c.in-Ok.ensures.here.loaded.place))
 
 pub returns-in-Ok-clause-access : goal.returns-in-Ok-clause-access
 returns-in-Ok-clause-access g c =
     let n = c.load.new.self in
     pin-freed (loom_told g.H.Host c.args.self.now) (loom_told g.H.Host n) (loom_told g.H.Host c.put_slot.new.self) c.args.slot c.args.r (name_if (core_of n.pager.levels.parts).entries c.in-Ok.s.0) c.in-Ok.ensures.thinned
-    (pin-name (core_of n.pager.levels.parts) c.in-Ok.s.0 ((loom_told g.H.Host n).regs c.args.r) (short-of g c) (value-of g c)) c.put_slot.ensures.told (c.in-Ok.ensures.core (Pin c.args.slot c.args.r) refl refl)
+    (pin-name (core_of n.pager.levels.parts) c.in-Ok.s.0 ((loom_told g.H.Host n).regs c.args.r) (short-of g c) (value-of g c)) c.put_slot.ensures.told (c.in-Ok.ensures.here.core (Pin c.args.slot c.args.r) refl refl)
 
 pub returns-in-Ok-clause-fit : goal.returns-in-Ok-clause-fit
 returns-in-Ok-clause-fit g c =
     let n = c.load.new.self in
     let ready = thinned-ready (loom_told g.H.Host c.args.self.now) (loom_told g.H.Host n) c.in-Ok.ensures.thinned c.requires.fit.ready in
     record {
-      sound = c.put_slot.ensures.sound;
+      sound = c.put_slot.ensures.leaves.sound;
       ready = subst (λ (t : Told). IsReady t) (sym c.put_slot.ensures.told) (ready-pin (loom_told g.H.Host n) c.args.slot (name_if (core_of n.pager.levels.parts).entries c.in-Ok.s.0)
           (λ k e told. pin-has (loom_told g.H.Host n) (core_of n.pager.levels.parts) c.args.r c.in-Ok.s.0 k ready (short-of g c) (value-of g c) e told) ready);
-      lender = c.put_slot.ensures.lender ∙ c.in-Ok.ensures.lender;
-      outside = c.put_slot.ensures.outside ∙ c.in-Ok.ensures.outside;
+      lender = c.put_slot.ensures.leaves.lender ∙ c.in-Ok.ensures.leaves.lender;
+      outside = c.put_slot.ensures.leaves.outside ∙ c.in-Ok.ensures.leaves.outside;
     }
 
 pub returns-in-Err-clause-access : goal.returns-in-Err-clause-access
@@ -53,7 +53,7 @@ returns-in-Err-clause-access g c = refused-is (loom_told g.H.Host c.args.self.no
 pub returns-in-Ok-clause-own : goal.returns-in-Ok-clause-own
 returns-in-Ok-clause-own g c =
     let m = c.args.self.now in
-    steady-sparing g.H.Host m c.load.new.self c.put_slot.new.self (name_at ((loom_told g.H.Host m).regs c.args.r)) c.in-Ok.s _ c.in-Ok.ensures.own c.put_slot.ensures.steady c.in-Ok.ensures.sound.kept.parts.core c.put_slot.ensures.sound.kept.parts.core (ap (λ (t : Told). t.bounds) c.put_slot.ensures.told)
+    steady-sparing g.H.Host m c.load.new.self c.put_slot.new.self (name_at ((loom_told g.H.Host m).regs c.args.r)) c.in-Ok.s _ c.in-Ok.ensures.own c.put_slot.ensures.steady c.load.new.self.pager.levels.whole.parts.core c.put_slot.new.self.pager.levels.whole.parts.core (ap (λ (t : Told). t.bounds) c.put_slot.ensures.told)
 
 pub returns-in-Err-clause-own : goal.returns-in-Err-clause-own
 returns-in-Err-clause-own g c = sparing-err g.H.Host c.args.self.now c.load.new.self (name_at ((loom_told g.H.Host c.args.self.now).regs c.args.r)) c.in-Err.f c.in-Err.ensures.own

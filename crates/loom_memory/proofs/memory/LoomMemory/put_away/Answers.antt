@@ -19,14 +19,15 @@ use Rattle.loom_memory.specs.Residents.{fetched}
 use Rattle.loom_memory.proofs.KeepingLaws.{flag-off}
 use Rattle.loom_memory.proofs.MindLaws.{marks-keep}
 use Rattle.loom_memory.proofs.MindLaws.{minds-refl}
+use Rattle.loom_memory.proofs.EffectLaws.{lost-by}
 use Rattle.loom_memory.proofs.memory.LoomMemory.put_away.Goals as goal
 
 pub used_entry-requires : goal.used_entry-requires
 unfolding core_of
-used_entry-requires g c = let m = c.args.self.now in (named-now g.H.Host m c.args.of (slice_index_or m.regs c.index.result 0) c.requires.sound c.requires.ready c.requires.name (word-is m.regs c.index.result c.args.of c.index.ensures.same c.index.ensures.within c.requires.sound.kept.many)).used
+used_entry-requires g c = let m = c.args.self.now in (named-now g.H.Host m c.args.of (slice_index_or m.regs c.index.result 0) c.requires.fit.sound c.requires.fit.ready c.requires.name (word-is m.regs c.index.result c.args.of c.index.ensures.same c.index.ensures.within c.requires.fit.sound.kept.many)).used
 
 pub evict-requires-clause-ready : goal.evict-requires-clause-ready
-evict-requires-clause-ready g c = pager-ready g.H.Host c.args.self.now c.requires.sound
+evict-requires-clause-ready g c = pager-ready g.H.Host c.args.self.now c.requires.fit.sound
 
 pub evict-requires-clause-body : goal.evict-requires-clause-body
 unfolding core_of
@@ -37,30 +38,39 @@ unfolding loom_told
 evict-requires-clause-loose g c =
     let m = c.args.self.now in
     let w = slice_index_or m.regs c.index.result 0 in
-    let same = word-is m.regs c.index.result c.args.of c.index.ensures.same c.index.ensures.within c.requires.sound.kept.many in
-    let named = named-now g.H.Host m c.args.of w c.requires.sound c.requires.ready c.requires.name same in
-    unpinned-is (core_in m.pager) m.pager.pinned w (λ none. c.requires.sound.kept.filled c.args.of (sym same ∙ none))
+    let same = word-is m.regs c.index.result c.args.of c.index.ensures.same c.index.ensures.within c.requires.fit.sound.kept.many in
+    let named = named-now g.H.Host m c.args.of w c.requires.fit.sound c.requires.fit.ready c.requires.name same in
+    unpinned-is (core_in m.pager) m.pager.pinned w (λ none. c.requires.fit.sound.kept.filled c.args.of (sym same ∙ none))
     (subst (λ (v : Value). IsUnpinned (loom_told g.H.Host m).slots (name_at v)) named.name c.requires.unpinned)
 
 pub returns-in-Ok-clause-quiet : goal.returns-in-Ok-clause-quiet
-returns-in-Ok-clause-quiet g c = pager-quiet g.H.Host c.args.self.now c.evict.new.self c.requires.sound c.evict.ensures.purges.leaves c.in-Ok.ensures.purges.keeps
+returns-in-Ok-clause-quiet g c = pager-quiet g.H.Host c.args.self.now c.evict.new.self c.requires.fit.sound c.evict.ensures.purges.leaves c.in-Ok.ensures.purges.keeps
 
-pub returns-in-Ok-clause-sound : goal.returns-in-Ok-clause-sound
-returns-in-Ok-clause-sound g c = pager-sound g.H.Host c.args.self.now c.evict.new.self c.requires.sound c.evict.ensures.purges.leaves c.in-Ok.ensures.purges.keeps
+pub returns-in-Ok-clause-leaves : goal.returns-in-Ok-clause-leaves
+unfolding fetched
+returns-in-Ok-clause-leaves g c = record {
+  sound = pager-sound g.H.Host c.args.self.now c.evict.new.self c.requires.fit.sound c.evict.ensures.purges.leaves c.in-Ok.ensures.purges.keeps;
+  fetches = refl;
+  lender = c.evict.ensures.purges.leaves.disk.lender;
+  outside = pager-outside g.H.Host c.args.self.now c.evict.new.self c.evict.ensures.purges.leaves;
+}
 
 pub returns-in-Ok-clause-away : goal.returns-in-Ok-clause-away
 returns-in-Ok-clause-away g c =
     let m = c.args.self.now in
-    ap (λ (w : ℕ). place_of ((core_in c.evict.new.self).entries w).state) (sym (word-is m.regs c.index.result c.args.of c.index.ensures.same c.index.ensures.within c.requires.sound.kept.many)) ∙ c.in-Ok.ensures.left.gone
+    ap (λ (w : ℕ). place_of ((core_in c.evict.new.self).entries w).state) (sym (word-is m.regs c.index.result c.args.of c.index.ensures.same c.index.ensures.within c.requires.fit.sound.kept.many)) ∙ c.in-Ok.ensures.left.gone
 
-pub returns-in-Ok-clause-leaves : goal.returns-in-Ok-clause-leaves
-returns-in-Ok-clause-leaves g c = λ r was. c.evict.ensures.purges.leaves.purged.leaves (word_in c.args.self.now.regs r) was
+pub returns-in-Ok-clause-still : goal.returns-in-Ok-clause-still
+returns-in-Ok-clause-still g c = λ r was. c.evict.ensures.purges.leaves.purged.leaves (word_in c.args.self.now.regs r) was
 
-pub returns-in-Ok-clause-outside : goal.returns-in-Ok-clause-outside
-returns-in-Ok-clause-outside g c = pager-outside g.H.Host c.args.self.now c.evict.new.self c.evict.ensures.purges.leaves
-
-pub returns-in-Err-clause-outside : goal.returns-in-Err-clause-outside
-returns-in-Err-clause-outside g c = c.refuse.ensures.outside ∙ pager-outside g.H.Host c.args.self.now c.evict.new.self c.evict.ensures.purges.leaves
+pub returns-in-Err-clause-leaves : goal.returns-in-Err-clause-leaves
+unfolding fetched
+returns-in-Err-clause-leaves g c = record {
+  sound = lost-by c.in-Err.f c.refusal_of-f.result c.refuse.result _ c.refusal_of-f.ensures c.refuse.ensures.result;
+  fetches = c.refuse.ensures.brings;
+  lender = c.refuse.ensures.lender ∙ c.evict.ensures.purges.leaves.disk.lender;
+  outside = c.refuse.ensures.outside ∙ pager-outside g.H.Host c.args.self.now c.evict.new.self c.evict.ensures.purges.leaves;
+}
 
 pub returns-in-Err-clause-err : goal.returns-in-Err-clause-err
 returns-in-Err-clause-err g c = λ a silent none.
@@ -76,17 +86,13 @@ pub returns-clause-away : goal.returns-clause-away
 unfolding core_of
 returns-clause-away g c =
     let m = c.args.self.now in
-    ap (λ (w : ℕ). place_of ((core_of m.pager.levels.parts).entries w).state) (sym (word-is m.regs c.index.result c.args.of c.index.ensures.same c.index.ensures.within c.requires.sound.kept.many))
+    ap (λ (w : ℕ). place_of ((core_of m.pager.levels.parts).entries w).state) (sym (word-is m.regs c.index.result c.args.of c.index.ensures.same c.index.ensures.within c.requires.fit.sound.kept.many))
     ∙ ap (λ (e : Entry). place_of e.state) (sym c.used_entry.ensures) ∙ sym c.place.ensures ∙ none-of c.place.result c.is_some.result c.is_some.ensures c.if-is_some.false
 
 pub returns-in-Ok-clause-others : goal.returns-in-Ok-clause-others
 returns-in-Ok-clause-others g c =
     let m = c.args.self.now in
-    left-others g.H.Host m (over_pager m c.evict.new.self) c.args.of (slice_index_or m.regs c.index.result 0) c.requires.sound c.evict.new.self.levels.whole.parts.core c.requires.name (word-is m.regs c.index.result c.args.of c.index.ensures.same c.index.ensures.within c.requires.sound.kept.many) c.evict.ensures.one
-
-pub returns-in-Ok-clause-fetches : goal.returns-in-Ok-clause-fetches
-unfolding fetched
-returns-in-Ok-clause-fetches g c = refl
+    left-others g.H.Host m (over_pager m c.evict.new.self) c.args.of (slice_index_or m.regs c.index.result 0) c.requires.fit.sound c.evict.new.self.levels.whole.parts.core c.requires.name (word-is m.regs c.index.result c.args.of c.index.ensures.same c.index.ensures.within c.requires.fit.sound.kept.many) c.evict.ensures.one
 
 pub returns-clause-others : goal.returns-clause-others
 returns-clause-others g c = λ k away here. here
@@ -94,25 +100,11 @@ returns-clause-others g c = λ k away here. here
 pub returns-in-Ok-clause-cached : goal.returns-in-Ok-clause-cached
 returns-in-Ok-clause-cached g c = λ off.
     let m = c.args.self.now in
-    let word = word-is m.regs c.index.result c.args.of c.index.ensures.same c.index.ensures.within c.requires.sound.kept.many in
-    marks-keep g.H.Host m (over_pager m c.evict.new.self) c.requires.sound c.evict.new.self.levels.whole.parts.core (c.evict.ensures.unmarked (flag-off g.H.Host m c.args.of (slice_index_or m.regs c.index.result 0) c.requires.sound c.requires.name word off)) refl
+    let word = word-is m.regs c.index.result c.args.of c.index.ensures.same c.index.ensures.within c.requires.fit.sound.kept.many in
+    marks-keep g.H.Host m (over_pager m c.evict.new.self) c.requires.fit.sound c.evict.new.self.levels.whole.parts.core (c.evict.ensures.unmarked (flag-off g.H.Host m c.args.of (slice_index_or m.regs c.index.result 0) c.requires.fit.sound c.requires.name word off)) refl
 
 pub returns-in-Ok-clause-minds : goal.returns-in-Ok-clause-minds
-returns-in-Ok-clause-minds g c = pager-minds g.H.Host c.args.self.now c.evict.new.self c.requires.sound c.evict.ensures.purges.leaves c.in-Ok.ensures.purges.keeps
+returns-in-Ok-clause-minds g c = pager-minds g.H.Host c.args.self.now c.evict.new.self c.requires.fit.sound c.evict.ensures.purges.leaves c.in-Ok.ensures.purges.keeps
 
 pub returns-clause-minds : goal.returns-clause-minds
-returns-clause-minds g c = minds-refl g.H.Host c.args.self.now (λ k. ⊥) c.requires.sound
-
-pub returns-in-Ok-clause-brings : goal.returns-in-Ok-clause-brings
-unfolding fetched
-returns-in-Ok-clause-brings g c = refl
-
-pub returns-in-Err-clause-brings : goal.returns-in-Err-clause-brings
-unfolding fetched
-returns-in-Err-clause-brings g c = c.refuse.ensures.brings
-
-pub returns-in-Ok-clause-lender : goal.returns-in-Ok-clause-lender
-returns-in-Ok-clause-lender g c = c.evict.ensures.purges.leaves.disk.lender
-
-pub returns-in-Err-clause-lender : goal.returns-in-Err-clause-lender
-returns-in-Err-clause-lender g c = c.refuse.ensures.lender ∙ c.evict.ensures.purges.leaves.disk.lender
+returns-clause-minds g c = minds-refl g.H.Host c.args.self.now (λ k. ⊥) c.requires.fit.sound

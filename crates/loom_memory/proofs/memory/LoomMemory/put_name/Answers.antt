@@ -34,10 +34,15 @@ returns-in-Ok-clause-unspent g c = λ unspent. steady-trans g.H.Host c.args.self
 pub returns-in-Ok-clause-minds : goal.returns-in-Ok-clause-minds
 returns-in-Ok-clause-minds g c =
     let s = c.put_word.ensures.steady in
-    minds-step g.H.Host c.args.self.now c.entry_of.new.self c.put_word.new.self (λ k. ⊥) c.in-Ok.ensures.minds c.in-Ok.ensures.sound.kept.parts.core c.put_word.ensures.sound.kept.parts.core s.gentle.remains s.none s.gentle.cache
+    minds-step g.H.Host c.args.self.now c.entry_of.new.self c.put_word.new.self (λ k. ⊥) c.in-Ok.ensures.minds c.entry_of.new.self.pager.levels.whole.parts.core c.put_word.new.self.pager.levels.whole.parts.core s.gentle.remains s.none s.gentle.cache
 
-pub returns-in-Ok-clause-brings : goal.returns-in-Ok-clause-brings
-returns-in-Ok-clause-brings g c = c.put_word.ensures.steady.idle.fetches ∙ c.entry_of.ensures.brings
+pub returns-in-Ok-clause-leaves : goal.returns-in-Ok-clause-leaves
+returns-in-Ok-clause-leaves g c = record {
+  sound = c.put_word.ensures.leaves.sound;
+  fetches = c.put_word.ensures.steady.idle.fetches ∙ c.entry_of.ensures.leaves.fetches;
+  lender = c.put_word.ensures.leaves.lender ∙ c.entry_of.ensures.leaves.lender;
+  outside = c.put_word.ensures.leaves.outside ∙ c.entry_of.ensures.leaves.outside;
+}
 
 pub returns-in-Ok-clause-due : goal.returns-in-Ok-clause-due
 returns-in-Ok-clause-due g c = c.put_word.ensures.due ∙ c.in-Ok.ensures.due

@@ -13,51 +13,63 @@ use Rattle.loom_memory.specs.declared.ledger.Ledger.{Ledger}
 use Rattle.loom_memory.specs.Residents.{fetched}
 use Rattle.loom_memory.proofs.SparedLaws.{spared-trans}
 use Rattle.loom_memory.proofs.MindLaws.{minds-put}
+use Rattle.loom_memory.proofs.EffectLaws.{damaged-all}
 use Rattle.loom_memory.proofs.memory.LoomMemory.put_object.Goals as goal
 
-pub returns-in-Some-clause-made : goal.returns-in-Some-clause-made
+pub returns-in-Some-clause-puts : goal.returns-in-Some-clause-puts
 unfolding loom_told
-returns-in-Some-clause-made g c =
-    let m = c.args.self.now in
-    let n = c.add_object.new.self in
-    added-made (loom_told g.H.Host m) (loom_told g.H.Host n) (loom_told g.H.Host c.put_word.new.self) c.args.to c.args.class c.args.name _ c.in-Some.ensures.added
-    (c.put_word.ensures.told ∙ ap (λ (v : Value). record (loom_told g.H.Host n) { regs = set_register (loom_told g.H.Host n).regs c.args.to v }) (entry-means (core_of n.pager.levels.parts) c.in-Some.s.0 c.args.name c.in-Some.ensures.entry))
-    (λ told. sym (told-next g.H.Host m told ∙ c.requires.next))
+returns-in-Some-clause-puts g c = record {
+  made =
+      let m = c.args.self.now in
+      let n = c.add_object.new.self in
+      added-made (loom_told g.H.Host m) (loom_told g.H.Host n) (loom_told g.H.Host c.put_word.new.self) c.args.to c.args.class c.args.name _ c.in-Some.ensures.adds.added
+      (c.put_word.ensures.told ∙ ap (λ (v : Value). record (loom_told g.H.Host n) { regs = set_register (loom_told g.H.Host n).regs c.args.to v }) (entry-means (core_of n.pager.levels.parts) c.in-Some.s.0 c.args.name c.in-Some.ensures.adds.entry))
+      (λ told. sym (told-next g.H.Host m told ∙ c.requires.name.next));
+  there =
+      let n = c.add_object.new.self in
+      put-resident g.H.Host n c.put_word.new.self c.args.to c.args.name c.add_object.new.self.pager.levels.whole.parts.core c.put_word.new.self.pager.levels.whole.parts.core c.put_word.ensures.steady
+      (c.put_word.ensures.told ∙ ap (λ (v : Value). record (loom_told g.H.Host n) { regs = set_register (loom_told g.H.Host n).regs c.args.to v }) (entry-means (core_of n.pager.levels.parts) c.in-Some.s.0 c.args.name c.in-Some.ensures.adds.entry))
+      c.in-Some.ensures.adds.there;
+  minds =
+      let n = c.add_object.new.self in
+      minds-put g.H.Host c.args.self.now n c.put_word.new.self c.args.to c.args.name c.in-Some.ensures.adds.minds c.add_object.new.self.pager.levels.whole.parts.core c.put_word.new.self.pager.levels.whole.parts.core c.put_word.ensures.steady
+      (c.put_word.ensures.told ∙ ap (λ (v : Value). record (loom_told g.H.Host n) { regs = set_register (loom_told g.H.Host n).regs c.args.to v }) (entry-means (core_of n.pager.levels.parts) c.in-Some.s.0 c.args.name c.in-Some.ensures.adds.entry));
+}
 
 pub returns-in-None-clause-err : goal.returns-in-None-clause-err
 returns-in-None-clause-err g c =
     damaged-making g.H.Host c.args.self.now c.add_object.new.self (loom_told g.H.Host c.refuse.new.self) _ c.refuse.result c.in-None.ensures.ledger c.add_object.ensures.disk c.in-None.ensures.none c.refuse.ensures.told c.refuse.ensures.result c.refuse.ensures.later
 
-pub returns-in-Some-clause-outside : goal.returns-in-Some-clause-outside
+pub returns-in-Some-clause-leaves : goal.returns-in-Some-clause-leaves
 unfolding loom_outside
-returns-in-Some-clause-outside g c = c.put_word.ensures.outside ∙ ap (λ d. (λ r. others_of (g.H.Host.tells Work) r (g.H.Host.roles d.host.now r) (g.H.Host.faults d.host.now r))) c.add_object.ensures.disk
+returns-in-Some-clause-leaves g c = record {
+  sound = c.put_word.ensures.leaves.sound;
+  fetches = c.put_word.ensures.steady.idle.fetches ∙ c.add_object.ensures.fetches;
+  lender = c.put_word.ensures.leaves.lender ∙ ap (λ d. d.host.ghost_name) c.add_object.ensures.disk;
+  outside = c.put_word.ensures.leaves.outside ∙ ap (λ d. (λ r. others_of (g.H.Host.tells Work) r (g.H.Host.roles d.host.now r) (g.H.Host.faults d.host.now r))) c.add_object.ensures.disk;
+}
 
-pub returns-in-None-clause-outside : goal.returns-in-None-clause-outside
+pub returns-in-None-clause-leaves : goal.returns-in-None-clause-leaves
 unfolding loom_outside
-returns-in-None-clause-outside g c = c.refuse.ensures.outside ∙ ap (λ d. (λ r. others_of (g.H.Host.tells Work) r (g.H.Host.roles d.host.now r) (g.H.Host.faults d.host.now r))) c.add_object.ensures.disk
+returns-in-None-clause-leaves g c = record {
+  sound = damaged-all c.refuse.result _ _ _ c.refuse.ensures.result;
+  fetches = c.refuse.ensures.brings ∙ c.add_object.ensures.fetches;
+  lender = c.refuse.ensures.lender ∙ ap (λ d. d.host.ghost_name) c.add_object.ensures.disk;
+  outside = c.refuse.ensures.outside ∙ ap (λ d. (λ r. others_of (g.H.Host.tells Work) r (g.H.Host.roles d.host.now r) (g.H.Host.faults d.host.now r))) c.add_object.ensures.disk;
+}
 
-pub returns-in-Some-clause-there : goal.returns-in-Some-clause-there
-returns-in-Some-clause-there g c =
-    let n = c.add_object.new.self in
-    put-resident g.H.Host n c.put_word.new.self c.args.to c.args.name c.in-Some.ensures.sound.kept.parts.core c.put_word.ensures.sound.kept.parts.core c.put_word.ensures.steady
-    (c.put_word.ensures.told ∙ ap (λ (v : Value). record (loom_told g.H.Host n) { regs = set_register (loom_told g.H.Host n).regs c.args.to v }) (entry-means (core_of n.pager.levels.parts) c.in-Some.s.0 c.args.name c.in-Some.ensures.entry))
-    c.in-Some.ensures.there
-
-pub returns-in-Some-clause-fetches : goal.returns-in-Some-clause-fetches
-returns-in-Some-clause-fetches g c = c.put_word.ensures.steady.idle.fetches ∙ c.add_object.ensures.fetches
-
-pub returns-in-Some-clause-resting : goal.returns-in-Some-clause-resting
-returns-in-Some-clause-resting g c =
-    let steady = c.put_word.ensures.steady in
-    rest-trans c.args.self.now c.add_object.new.self c.put_word.new.self
-    (record { remains = c.in-Some.ensures.remains; idle = record { host = ap (λ d. d.host.now) c.add_object.ensures.disk; rest = ap (λ d. d.rest) c.add_object.ensures.disk; fetches = c.in-Some.ensures.fetches } })
-    (record { remains = steady.gentle.remains; idle = steady.idle })
+pub returns-in-Some-clause-rests : goal.returns-in-Some-clause-rests
+returns-in-Some-clause-rests g c = record {
+  resting =
+      let steady = c.put_word.ensures.steady in
+      rest-trans c.args.self.now c.add_object.new.self c.put_word.new.self
+      (record { remains = c.in-Some.ensures.adds.remains; idle = record { host = ap (λ d. d.host.now) c.add_object.ensures.disk; rest = ap (λ d. d.rest) c.add_object.ensures.disk; fetches = c.in-Some.ensures.fetches } })
+      (record { remains = steady.gentle.remains; idle = steady.idle });
+  cached = c.put_word.ensures.steady.gentle.cache ∙ c.in-Some.ensures.cached;
+}
 
 pub returns-in-None-clause-fault : goal.returns-in-None-clause-fault
 returns-in-None-clause-fault g c = subst (λ (f : MemFault). IsLost f) (sym c.refuse.ensures.result) tt
-
-pub returns-in-Some-clause-cached : goal.returns-in-Some-clause-cached
-returns-in-Some-clause-cached g c = c.put_word.ensures.steady.gentle.cache ∙ c.in-Some.ensures.cached
 
 pub returns-in-None-clause-spared : goal.returns-in-None-clause-spared
 unfolding fetched
@@ -69,15 +81,6 @@ returns-in-None-clause-spared g c = spared-trans g.H.Host c.args.self.now c.add_
 
 pub returns-in-None-clause-sure : goal.returns-in-None-clause-sure
 returns-in-None-clause-sure g c = c.in-None.ensures.none
-
-pub returns-in-Some-clause-minds : goal.returns-in-Some-clause-minds
-returns-in-Some-clause-minds g c =
-    let n = c.add_object.new.self in
-    minds-put g.H.Host c.args.self.now n c.put_word.new.self c.args.to c.args.name c.in-Some.ensures.minds c.in-Some.ensures.sound.kept.parts.core c.put_word.ensures.sound.kept.parts.core c.put_word.ensures.steady
-    (c.put_word.ensures.told ∙ ap (λ (v : Value). record (loom_told g.H.Host n) { regs = set_register (loom_told g.H.Host n).regs c.args.to v }) (entry-means (core_of n.pager.levels.parts) c.in-Some.s.0 c.args.name c.in-Some.ensures.entry))
-
-pub returns-in-None-clause-fetches : goal.returns-in-None-clause-fetches
-returns-in-None-clause-fetches g c = c.refuse.ensures.brings ∙ c.add_object.ensures.fetches
 
 pub returns-in-Some-clause-due : goal.returns-in-Some-clause-due
 returns-in-Some-clause-due g c = c.put_word.ensures.due ∙ c.add_object.ensures.due

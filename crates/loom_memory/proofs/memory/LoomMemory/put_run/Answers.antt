@@ -13,18 +13,20 @@ pub returns-in-Ok-clause-put : goal.returns-in-Ok-clause-put
 unfolding loom_told
 returns-in-Ok-clause-put g c = put-told g.H.Host c.args.self.now c.write_to.new.self.host.now c.write_to.new.self.rest c.args.run.now c.write_to.ensures.rest c.write_to.ensures.work c.write_to.ensures.other_faults c.write_to.ensures.cause.later (λ told. ap (λ (s : RoleState). s.put) (c.in-Ok.ensures.put told))
 
-pub returns-in-Ok-clause-sound : goal.returns-in-Ok-clause-sound
-returns-in-Ok-clause-sound g c = record {
-  kept = c.requires.sound.kept;
-  over = put-sound g.H.Host c.args.self.now c.write_to.new.self.host.now c.write_to.new.self.rest c.requires.sound c.write_to.ensures.rest c.write_to.ensures.work (λ told. (c.write_to.ensures.keeps c.requires.sound.over.stands told).stands told);
-  soon = c.requires.sound.soon;
-  exact = exact-work g.H.Host c.args.self.now.pager.levels.parts c.args.self.now.pager.levels.disk.host.now c.write_to.new.self.host.now c.args.self.now.pager.levels.disk.rest c.write_to.new.self.rest c.args.self.now.ledger.next c.requires.sound.exact c.write_to.ensures.rest c.write_to.ensures.work;
-  thin = thin-of g.H.Host c.args.self.now _ c.requires.sound.thin (λ on. on) (ap (λ (t : Told). t.heap) (returns-in-Ok-clause-put g c).same) (ap (λ (t : Told). t.regs) (returns-in-Ok-clause-put g c).same) (ap (λ (t : Told). t.slots) (returns-in-Ok-clause-put g c).same);
+pub returns-in-Ok-clause-leaves : goal.returns-in-Ok-clause-leaves
+unfolding loom_outside fetched
+returns-in-Ok-clause-leaves g c = record {
+  sound = record {
+    kept = c.requires.sound.kept;
+    over = put-sound g.H.Host c.args.self.now c.write_to.new.self.host.now c.write_to.new.self.rest c.requires.sound c.write_to.ensures.rest c.write_to.ensures.work (λ told. (c.write_to.ensures.keeps c.requires.sound.over.stands told).stands told);
+    soon = c.requires.sound.soon;
+    exact = exact-work g.H.Host c.args.self.now.pager.levels.parts c.args.self.now.pager.levels.disk.host.now c.write_to.new.self.host.now c.args.self.now.pager.levels.disk.rest c.write_to.new.self.rest c.args.self.now.ledger.next c.requires.sound.exact c.write_to.ensures.rest c.write_to.ensures.work;
+    thin = thin-of g.H.Host c.args.self.now _ c.requires.sound.thin (λ on. on) (ap (λ (t : Told). t.heap) (returns-in-Ok-clause-put g c).same) (ap (λ (t : Told). t.regs) (returns-in-Ok-clause-put g c).same) (ap (λ (t : Told). t.slots) (returns-in-Ok-clause-put g c).same);
+  };
+  fetches = refl;
+  lender = c.write_to.ensures.same_host;
+  outside = put-outside g.H.Host c.args.self.now.pager.levels.disk.host.now c.write_to.new.self.host.now c.write_to.ensures.others c.write_to.ensures.other_faults;
 }
-
-pub returns-in-Ok-clause-outside : goal.returns-in-Ok-clause-outside
-unfolding loom_outside
-returns-in-Ok-clause-outside g c = put-outside g.H.Host c.args.self.now.pager.levels.disk.host.now c.write_to.new.self.host.now c.write_to.ensures.others c.write_to.ensures.other_faults
 
 pub returns-in-Err-clause-part : goal.returns-in-Err-clause-part
 unfolding loom_told
@@ -41,29 +43,23 @@ pub returns-in-Err-clause-rose : goal.returns-in-Err-clause-rose
 unfolding loom_told
 returns-in-Err-clause-rose g c = c.in-Err.ensures.cause.rose refl
 
-pub returns-in-Err-clause-sound : goal.returns-in-Err-clause-sound
-returns-in-Err-clause-sound g c = record {
-  kept = c.requires.sound.kept;
-  over = put-sound g.H.Host c.args.self.now c.write_to.new.self.host.now c.write_to.new.self.rest c.requires.sound c.write_to.ensures.rest c.write_to.ensures.work (λ told. (c.write_to.ensures.keeps c.requires.sound.over.stands told).stands told);
-  soon = c.requires.sound.soon;
-  exact = exact-work g.H.Host c.args.self.now.pager.levels.parts c.args.self.now.pager.levels.disk.host.now c.write_to.new.self.host.now c.args.self.now.pager.levels.disk.rest c.write_to.new.self.rest c.args.self.now.ledger.next c.requires.sound.exact c.write_to.ensures.rest c.write_to.ensures.work;
-  thin = thin-of g.H.Host c.args.self.now _ c.requires.sound.thin (λ on. on) (ap (λ (t : Told). t.heap) (returns-in-Err-clause-part g c).1.same) (ap (λ (t : Told). t.regs) (returns-in-Err-clause-part g c).1.same) (ap (λ (t : Told). t.slots) (returns-in-Err-clause-part g c).1.same);
+pub returns-in-Err-clause-leaves : goal.returns-in-Err-clause-leaves
+unfolding loom_outside fetched
+returns-in-Err-clause-leaves g c = record {
+  sound = record {
+    kept = c.requires.sound.kept;
+    over = put-sound g.H.Host c.args.self.now c.write_to.new.self.host.now c.write_to.new.self.rest c.requires.sound c.write_to.ensures.rest c.write_to.ensures.work (λ told. (c.write_to.ensures.keeps c.requires.sound.over.stands told).stands told);
+    soon = c.requires.sound.soon;
+    exact = exact-work g.H.Host c.args.self.now.pager.levels.parts c.args.self.now.pager.levels.disk.host.now c.write_to.new.self.host.now c.args.self.now.pager.levels.disk.rest c.write_to.new.self.rest c.args.self.now.ledger.next c.requires.sound.exact c.write_to.ensures.rest c.write_to.ensures.work;
+    thin = thin-of g.H.Host c.args.self.now _ c.requires.sound.thin (λ on. on) (ap (λ (t : Told). t.heap) (returns-in-Err-clause-part g c).1.same) (ap (λ (t : Told). t.regs) (returns-in-Err-clause-part g c).1.same) (ap (λ (t : Told). t.slots) (returns-in-Err-clause-part g c).1.same);
+  };
+  fetches = refl;
+  lender = c.write_to.ensures.same_host;
+  outside = put-outside g.H.Host c.args.self.now.pager.levels.disk.host.now c.write_to.new.self.host.now c.write_to.ensures.others c.write_to.ensures.other_faults;
 }
-
-pub returns-in-Err-clause-outside : goal.returns-in-Err-clause-outside
-unfolding loom_outside
-returns-in-Err-clause-outside g c = put-outside g.H.Host c.args.self.now.pager.levels.disk.host.now c.write_to.new.self.host.now c.write_to.ensures.others c.write_to.ensures.other_faults
 
 pub returns-in-Ok-clause-speech : goal.returns-in-Ok-clause-speech
 returns-in-Ok-clause-speech g c = record { parts = refl; ledger = refl; due = refl; thinned = refl; work = c.write_to.ensures.work; writes = c.write_to.ensures.writes }
 
 pub returns-in-Err-clause-speech : goal.returns-in-Err-clause-speech
 returns-in-Err-clause-speech g c = record { parts = refl; ledger = refl; due = refl; thinned = refl; work = c.write_to.ensures.work; writes = c.write_to.ensures.writes }
-
-pub returns-in-Ok-clause-brings : goal.returns-in-Ok-clause-brings
-unfolding fetched
-returns-in-Ok-clause-brings g c = refl
-
-pub returns-in-Err-clause-brings : goal.returns-in-Err-clause-brings
-unfolding fetched
-returns-in-Err-clause-brings g c = refl

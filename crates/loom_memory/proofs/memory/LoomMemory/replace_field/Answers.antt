@@ -32,14 +32,14 @@ exchange_field-requires-clause-there g c =
 pub exchange_field-requires-clause-used : goal.exchange_field-requires-clause-used
 exchange_field-requires-clause-used g c = λ is.
     let there = c.requires.there in
-    word-live (core_of c.unmark.new.self.pager.levels.parts) c.args.s.0 there.0 c.args.i c.args.w c.unmark.ensures.sound.kept.parts.core (c.unmark.ensures.field there.0 c.args.i c.args.w there.1) is
+    word-live (core_of c.unmark.new.self.pager.levels.parts) c.args.s.0 there.0 c.args.i c.args.w c.unmark.new.self.pager.levels.whole.parts.core (c.unmark.ensures.field there.0 c.args.i c.args.w there.1) is
 
 pub exchange_field-requires-clause-before : goal.exchange_field-requires-clause-before
 unfolding loom_told
 exchange_field-requires-clause-before g c = λ told.
     let n = c.unmark.new.self in
     let there = c.requires.there in
-    field-told (g.H.Host.tells Work) (core_of n.pager.levels.parts) (disk_of g.H.Host n.pager.levels.disk.host.now n.pager.levels.disk.rest) n.ledger.next c.args.s.0 there.0 0 c.args.of c.args.i c.args.w (loom_told g.H.Host n).regs told c.unmark.ensures.sound.kept.parts.core (c.unmark.ensures.field there.0 c.args.i c.args.w there.1) there.2
+    field-told (g.H.Host.tells Work) (core_of n.pager.levels.parts) (disk_of g.H.Host n.pager.levels.disk.host.now n.pager.levels.disk.rest) n.ledger.next c.args.s.0 there.0 0 c.args.of c.args.i c.args.w (loom_told g.H.Host n).regs told c.unmark.new.self.pager.levels.whole.parts.core (c.unmark.ensures.field there.0 c.args.i c.args.w there.1) there.2
     (ap (meant (core_of n.pager.levels.parts).entries [] 0) (sym (c.requires.word ∙ ap (λ (regs : List ℕ). word_in regs c.args.of) (sym c.unmark.ensures.regs))))
 
 -- ---- the word is there
@@ -49,7 +49,7 @@ returns-then-word_of-w-clause-stored g c =
     let u = c.unmark.new.self in
     let there = c.requires.there in
     stored-quiet (loom_told g.H.Host c.args.self.now) (loom_told g.H.Host u) (loom_told g.H.Host u) (SetField c.args.of c.args.i c.args.from) c.unmark.ensures.quiet
-    (stored-own g.H.Host u c.args.of c.args.i c.args.from c.args.s.0 there.0 c.args.w c.unmark.ensures.sound (c.unmark.ensures.field there.0 c.args.i c.args.w there.1) there.2 c.unmark.ensures.gone (c.requires.word ∙ ap (λ (regs : List ℕ). word_in regs c.args.of) (sym c.unmark.ensures.regs))
+    (stored-own g.H.Host u c.args.of c.args.i c.args.from c.args.s.0 there.0 c.args.w c.unmark.ensures.leaves.sound (c.unmark.ensures.field there.0 c.args.i c.args.w there.1) there.2 c.unmark.ensures.gone (c.requires.word ∙ ap (λ (regs : List ℕ). word_in regs c.args.of) (sym c.unmark.ensures.regs))
     (sym c.if-word_of-w.true ∙ c.word_of.ensures.word))
 
 pub returns-then-word_of-w-clause-cached : goal.returns-then-word_of-w-clause-cached
@@ -70,7 +70,7 @@ pub returns-clause-minds : goal.returns-clause-minds
 returns-clause-minds g c =
     let m = c.args.self.now in
     let u = c.unmark.new.self in
-    minds-step g.H.Host m u c.exchange_field.new.self (λ k. k ≡ ((core_of m.pager.levels.parts).entries c.args.s.0).name) c.unmark.ensures.minds c.unmark.ensures.sound.kept.parts.core c.exchange_field.ensures.sound.kept.parts.core c.exchange_field.ensures.resting.remains c.exchange_field.ensures.none c.exchange_field.ensures.cached
+    minds-step g.H.Host m u c.exchange_field.new.self (λ k. k ≡ ((core_of m.pager.levels.parts).entries c.args.s.0).name) c.unmark.ensures.minds c.unmark.new.self.pager.levels.whole.parts.core c.exchange_field.new.self.pager.levels.whole.parts.core c.exchange_field.ensures.resting.remains c.exchange_field.ensures.none c.exchange_field.ensures.cached
 
 pub returns-then-word_of-w-clause-stays : goal.returns-then-word_of-w-clause-stays
 returns-then-word_of-w-clause-stays g c = λ on named. c.unmark.ensures.flag ∙ on

@@ -22,13 +22,13 @@ use Rattle.loom_memory.proofs.memory.LoomMemory.replace_word.Goals as goal
 use Rattle.loom_memory.proofs.memory.LoomMemory.replace_word.Given as given
 
 pub hold_word-requires-clause-light : goal.hold_word-requires-clause-light
-hold_word-requires-clause-light g c = let m = c.args.self.now in few-held (core_of m.pager.levels.parts) m.regs m.pager.pinned c.args.w (kept-rooted m.pager.levels.parts m.regs m.pager.pinned m.ledger c.requires.sound.kept) c.requires.sound.kept.many
+hold_word-requires-clause-light g c = let m = c.args.self.now in few-held (core_of m.pager.levels.parts) m.regs m.pager.pinned c.args.w (kept-rooted m.pager.levels.parts m.regs m.pager.pinned m.ledger m.pager.levels.whole c.requires.sound.kept) c.requires.sound.kept.many
 
 pub drop_word-requires-clause-held : goal.drop_word-requires-clause-held
 drop_word-requires-clause-held g c = λ is.
     let m = c.args.self.now in
     let old = slice_index_or m.regs c.index.result 0 in
-    let out = register-held (core_of m.pager.levels.parts) m.regs m.pager.pinned c.index.result old (kept-rooted m.pager.levels.parts m.regs m.pager.pinned m.ledger c.requires.sound.kept) (old-there m.regs c.index.result c.index.result c.index.result refl refl c.index.ensures.within c.requires.sound.kept.many) is in
+    let out = register-held (core_of m.pager.levels.parts) m.regs m.pager.pinned c.index.result old (kept-rooted m.pager.levels.parts m.regs m.pager.pinned m.ledger m.pager.levels.whole c.requires.sound.kept) (old-there m.regs c.index.result c.index.result c.index.result refl refl c.index.ensures.within c.requires.sound.kept.many) is in
     let more = c.hold_word.ensures.held.one_more old in
     omega arith
 
@@ -36,11 +36,11 @@ pub note_gone-requires-clause-used : goal.note_gone-requires-clause-used
 note_gone-requires-clause-used g c = λ is.
     let m = c.args.self.now in
     let old = slice_index_or m.regs c.index.result 0 in
-    let out = register-held (core_of m.pager.levels.parts) m.regs m.pager.pinned c.index.result old (kept-rooted m.pager.levels.parts m.regs m.pager.pinned m.ledger c.requires.sound.kept) (old-there m.regs c.index.result c.index.result c.index.result refl refl c.index.ensures.within c.requires.sound.kept.many) is in
-    (c.drop_word.ensures.dropped.live old (c.hold_word.ensures.held.live old (outside-used (core_of m.pager.levels.parts) old c.requires.sound.kept.parts.core out)).0).0
+    let out = register-held (core_of m.pager.levels.parts) m.regs m.pager.pinned c.index.result old (kept-rooted m.pager.levels.parts m.regs m.pager.pinned m.ledger m.pager.levels.whole c.requires.sound.kept) (old-there m.regs c.index.result c.index.result c.index.result refl refl c.index.ensures.within c.requires.sound.kept.many) is in
+    (c.drop_word.ensures.dropped.live old (c.hold_word.ensures.held.live old (outside-used (core_of m.pager.levels.parts) old c.args.self.now.pager.levels.whole.parts.core out)).0).0
 
 swap-of : (g : given.Over) (c : goal.After-note_gone g) → IsSwap (core_of c.args.self.now.pager.levels.parts) (core_of c.drop_word.new.p) c.args.w (slice_index_or c.args.self.now.regs c.index.result 0)
-swap-of g c = swapped (core_of c.args.self.now.pager.levels.parts) (core_of c.hold_word.new.p) (core_of c.drop_word.new.p) c.args.w (slice_index_or c.args.self.now.regs c.index.result 0) c.requires.sound.kept.parts.core c.drop_word.ensures.parts.core
+swap-of g c = swapped (core_of c.args.self.now.pager.levels.parts) (core_of c.hold_word.new.p) (core_of c.drop_word.new.p) c.args.w (slice_index_or c.args.self.now.regs c.index.result 0) c.args.self.now.pager.levels.whole.parts.core c.drop_word.ensures.parts.core
     (Stays-trans (core_of c.args.self.now.pager.levels.parts) (core_of c.hold_word.new.p) (core_of c.drop_word.new.p) c.hold_word.ensures.held.stays c.drop_word.ensures.dropped.stays)
     (RefStep-trans (core_of c.args.self.now.pager.levels.parts) (core_of c.hold_word.new.p) (core_of c.drop_word.new.p) c.hold_word.ensures.held.step c.drop_word.ensures.dropped.step)
     c.hold_word.ensures.held c.drop_word.ensures.dropped
@@ -53,32 +53,33 @@ unfolding loom_told
 returns-clause-told g c =
     let m = c.args.self.now in
     told-then g.H.Host m.pager.levels.disk.host.now m.pager.levels.disk.rest (core_of m.pager.levels.parts) (core_of c.drop_word.new.p) m.regs m.pager.pinned m.ledger c.index-2.result c.args.w (slice_index_or m.regs c.index.result 0)
-    (kept-rooted m.pager.levels.parts m.regs m.pager.pinned m.ledger c.requires.sound.kept) c.drop_word.ensures.parts.core c.requires.sound.kept.cached (swap-of g c) (let many = c.requires.sound.kept.many in let low = c.index-2.ensures.within in omega arith) c.requires.used c.requires.sound.over.backed
+    (kept-rooted m.pager.levels.parts m.regs m.pager.pinned m.ledger m.pager.levels.whole c.requires.sound.kept) c.drop_word.ensures.parts.core c.requires.sound.kept.cached (swap-of g c) (let many = c.requires.sound.kept.many in let low = c.index-2.ensures.within in omega arith) c.requires.used c.requires.sound.over.backed
     ∙ ap (λ (n : ℕ). record (told_of g.H.Host m.pager.levels.disk.host.now m.pager.levels.disk.rest (core_of m.pager.levels.parts) m.regs m.pager.pinned m.ledger) { regs = set_register (told_of g.H.Host m.pager.levels.disk.host.now m.pager.levels.disk.rest (core_of m.pager.levels.parts) m.regs m.pager.pinned m.ledger).regs n (meant (core_of m.pager.levels.parts).entries [] 0 c.args.w) }) c.index-2.ensures.same
 
-pub returns-clause-sound : goal.returns-clause-sound
-returns-clause-sound g c =
-    let m = c.args.self.now in
-    let kept_ = kept-then m.pager.levels.parts c.drop_word.new.p m.regs m.pager.pinned m.ledger c.index-2.result c.args.w (slice_index_or m.regs c.index.result 0) c.requires.sound.kept c.drop_word.ensures.parts (swap-of g c) (there g c) (let many = c.requires.sound.kept.many in let low = c.index-2.ensures.within in omega arith) c.requires.some (c.drop_word.ensures.segment ∙ c.hold_word.ensures.segment) in
-    let exact_ = exact-counts g.H.Host m.pager.levels.parts c.drop_word.new.p m.pager.levels.disk.host.now m.pager.levels.disk.rest m.ledger.next c.requires.sound.exact c.drop_word.ensures.parts (swap-of g c).stays
-    (swap-counts (core_of m.pager.levels.parts) (core_of c.hold_word.new.p) (core_of c.drop_word.new.p) c.args.w (slice_index_or m.regs c.index.result 0) c.hold_word.ensures.held c.hold_word.ensures.find c.drop_word.ensures.dropped) in
-    record {
-      kept = kept_;
-      over = over-then g.H.Host m.pager.levels.disk.host.now m.pager.levels.disk.rest (core_of m.pager.levels.parts) (core_of c.drop_word.new.p) m.ledger (swap-of g c).stays (swap-of g c).step c.requires.sound.over;
-      soon = c.requires.sound.soon;
-      exact = exact_;
-      thin = thin-swapped g.H.Host m _ c.args.w (slice_index_or m.regs c.index.result 0) c.requires.sound kept_ exact_ (ap (λ (t : Told). t.heap) (returns-clause-told g c)) (swap-of g c) (λ on. c.note_gone.ensures.was on) (λ on. c.note_gone.ensures.named on);
-    }
-
-pub returns-clause-outside : goal.returns-clause-outside
+pub returns-clause-leaves : goal.returns-clause-leaves
 unfolding loom_outside
-returns-clause-outside g c = refl
+returns-clause-leaves g c = record {
+  sound =
+      let m = c.args.self.now in
+      let kept_ = kept-then m.pager.levels.parts c.drop_word.new.p m.regs m.pager.pinned m.ledger c.index-2.result c.args.w (slice_index_or m.regs c.index.result 0) m.pager.levels.whole c.requires.sound.kept c.drop_word.ensures.parts (swap-of g c) (there g c) (let many = c.requires.sound.kept.many in let low = c.index-2.ensures.within in omega arith) c.requires.some (c.drop_word.ensures.segment ∙ c.hold_word.ensures.segment) in
+      let exact_ = exact-counts g.H.Host m.pager.levels.parts c.drop_word.new.p m.pager.levels.disk.host.now m.pager.levels.disk.rest m.ledger.next c.requires.sound.exact c.drop_word.ensures.parts (swap-of g c).stays
+      (swap-counts (core_of m.pager.levels.parts) (core_of c.hold_word.new.p) (core_of c.drop_word.new.p) c.args.w (slice_index_or m.regs c.index.result 0) c.hold_word.ensures.held c.hold_word.ensures.find c.drop_word.ensures.dropped) in
+      record {
+        kept = kept_;
+        over = over-then g.H.Host m.pager.levels.disk.host.now m.pager.levels.disk.rest (core_of m.pager.levels.parts) (core_of c.drop_word.new.p) m.ledger (swap-of g c).stays (swap-of g c).step c.requires.sound.over;
+        soon = c.requires.sound.soon;
+        exact = exact_;
+        thin = thin-swapped g.H.Host m _ c.args.w (slice_index_or m.regs c.index.result 0) c.requires.sound kept_ exact_ (ap (λ (t : Told). t.heap) (returns-clause-told g c)) (swap-of g c) (λ on. c.note_gone.ensures.was on) (λ on. c.note_gone.ensures.named on);
+      };
+  lender = refl;
+  outside = refl;
+}
 
 pub returns-clause-steady : goal.returns-clause-steady
 unfolding loom_told
 returns-clause-steady g c =
     let m = c.args.self.now in
-    steady-is g.H.Host m _ (swap-of g c).step (cache-same (core_of m.pager.levels.parts) (core_of c.drop_word.new.p) (found m.ledger.rows) m.ledger.mark m.ledger.begun c.requires.sound.kept.parts.core c.drop_word.ensures.parts.core (swap-of g c).marks c.requires.sound.kept.cached) refl refl refl
+    steady-is g.H.Host m _ (swap-of g c).step (cache-same (core_of m.pager.levels.parts) (core_of c.drop_word.new.p) (found m.ledger.rows) m.ledger.mark m.ledger.begun c.args.self.now.pager.levels.whole.parts.core c.drop_word.ensures.parts.core (swap-of g c).marks c.requires.sound.kept.cached) refl refl refl
 
 pub returns-clause-stays : goal.returns-clause-stays
 returns-clause-stays g c = λ on named.

@@ -8,7 +8,7 @@ use Rattle.loom_memory.proofs.memory.LoomMemory.resident.Goals as goal
 
 pub used_entry-requires : goal.used_entry-requires
 unfolding core_of
-used_entry-requires g c = c.requires.kept.parts.core.used c.args.name c.in-Some.s.0 (sym c.in-Some.ensures)
+used_entry-requires g c = c.args.self.now.pager.levels.whole.parts.core.used c.args.name c.in-Some.s.0 (sym c.in-Some.ensures)
 
 pub returns-in-Some : goal.returns-in-Some
 unfolding core_of is_resident

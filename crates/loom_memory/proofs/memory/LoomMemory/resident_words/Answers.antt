@@ -17,7 +17,7 @@ pub returns-clause-sum : goal.returns-clause-sum
 unfolding core_of chunk_at words_resident
 returns-clause-sum g c =
     let m = c.args.self.now in
-    let all = words-all (core_of m.pager.levels.parts) (chunks_of m.pager.levels.parts.segment) (free_of m.pager.levels.parts.segment) (size_of m.pager.levels.parts.segment) c.requires.kept.parts.core c.requires.kept.tight refl c.chunks_never_overlap.ensures in
+    let all = words-all (core_of m.pager.levels.parts) (chunks_of m.pager.levels.parts.segment) (free_of m.pager.levels.parts.segment) (size_of m.pager.levels.parts.segment) c.args.self.now.pager.levels.whole.parts.core c.args.self.now.pager.levels.whole.tight refl c.chunks_never_overlap.ensures in
     let size = c.requires.kept.size in
     let free = c.free_words-free.ensures in
     omega (arith, all, size, free)

@@ -46,12 +46,12 @@ loop-i-preserved g c =
     record {
       within = omega arith;
       said = λ t was. c.in-Ok.ensures.said t (i.said t was);
-      sound = c.say_from.ensures.sound;
+      sound = c.say_from.ensures.leaves.sound;
       parts = c.in-Ok.ensures.parts ∙ i.parts;
-      brings = c.say_from.ensures.brings ∙ i.brings;
+      brings = c.say_from.ensures.leaves.fetches ∙ i.brings;
       speech = speech-trans g.H.Host c.args.self.now c.loop-i.self c.say_from.new.self i.speech c.in-Ok.ensures.speech;
-      lender = c.say_from.ensures.lender ∙ i.lender;
-      outside = c.say_from.ensures.outside ∙ i.outside;
+      lender = c.say_from.ensures.leaves.lender ∙ i.lender;
+      outside = c.say_from.ensures.leaves.outside ∙ i.outside;
     }
 
 pub returns-in-Err-clause-err : goal.returns-in-Err-clause-err

@@ -17,29 +17,32 @@ use Rattle.loom_memory.proofs.MindLaws.{minds-stored}
 use Rattle.loom_memory.proofs.OneLaws.{brings-then}
 use Rattle.loom_memory.proofs.memory.LoomMemory.set_word.Goals as goal
 
-pub store_words-requires-clause-ready : goal.store_words-requires-clause-ready
-store_words-requires-clause-ready g c = thinned-ready (loom_told g.H.Host c.args.self.now) (loom_told g.H.Host c.open.new.self) c.in-Ok.ensures.thinned c.requires.fit.ready
+pub store_words-requires-clause-fit : goal.store_words-requires-clause-fit
+store_words-requires-clause-fit g c = record {
+  sound = c.in-Ok.ensures.leaves.sound;
+  ready = thinned-ready (loom_told g.H.Host c.args.self.now) (loom_told g.H.Host c.open.new.self) c.in-Ok.ensures.thinned c.requires.fit.ready;
+}
 
 pub store_words-requires-clause-may : goal.store_words-requires-clause-may
 unfolding loom_told
 store_words-requires-clause-may g c = λ told. word-can (loom_told g.H.Host c.open.new.self).heap (loom_told g.H.Host c.open.new.self).regs c.args.of c.args.i c.args.w (can-freed (loom_told g.H.Host c.args.self.now) (loom_told g.H.Host c.open.new.self) (SetWord c.args.of c.args.i c.args.w) c.args.of refl c.in-Ok.ensures.thinned c.requires.may.heap told)
 
 pub returns-in-Ok-clause-access : goal.returns-in-Ok-clause-access
-returns-in-Ok-clause-access g c = store-freed c.store_words.result (loom_told g.H.Host c.args.self.now) (loom_told g.H.Host c.open.new.self) (loom_told g.H.Host c.store_words.new.self) (SetWord c.args.of c.args.i c.args.w) c.args.of refl tt refl refl c.in-Ok.ensures.thinned (word-stored c.store_words.result (loom_told g.H.Host c.open.new.self) (loom_told g.H.Host c.store_words.new.self) c.args.of c.args.i c.args.w c.store_words.ensures.stored) (err-of c.store_words.result (loom_told g.H.Host c.open.new.self) (loom_told g.H.Host c.store_words.new.self) (SetWord c.args.of c.args.i c.args.w) tt refl c.store_words.ensures.err) (c.in-Ok.ensures.core (SetWord c.args.of c.args.i c.args.w) refl refl)
+returns-in-Ok-clause-access g c = store-freed c.store_words.result (loom_told g.H.Host c.args.self.now) (loom_told g.H.Host c.open.new.self) (loom_told g.H.Host c.store_words.new.self) (SetWord c.args.of c.args.i c.args.w) c.args.of refl tt refl refl c.in-Ok.ensures.thinned (word-stored c.store_words.result (loom_told g.H.Host c.open.new.self) (loom_told g.H.Host c.store_words.new.self) c.args.of c.args.i c.args.w c.store_words.ensures.stored) (err-of c.store_words.result (loom_told g.H.Host c.open.new.self) (loom_told g.H.Host c.store_words.new.self) (SetWord c.args.of c.args.i c.args.w) tt refl c.store_words.ensures.err) (c.in-Ok.ensures.opened.core (SetWord c.args.of c.args.i c.args.w) refl refl)
 
 pub returns-in-Err-clause-access : goal.returns-in-Err-clause-access
 returns-in-Err-clause-access g c = refused-is (loom_told g.H.Host c.args.self.now) (loom_told g.H.Host c.open.new.self) (SetWord c.args.of c.args.i c.args.w) (λ _. Nothing) c.in-Err.f (c.in-Err.ensures.err (SetWord c.args.of c.args.i c.args.w) refl refl tt)
 
 pub returns-in-Ok-clause-fit : goal.returns-in-Ok-clause-fit
 returns-in-Ok-clause-fit g c = record {
-  sound = c.store_words.ensures.sound;
+  sound = c.store_words.ensures.leaves.sound;
   ready = store-ready c.store_words.result (loom_told g.H.Host c.open.new.self) (loom_told g.H.Host c.store_words.new.self) (SetWord c.args.of c.args.i c.args.w) refl (thinned-ready (loom_told g.H.Host c.args.self.now) (loom_told g.H.Host c.open.new.self) c.in-Ok.ensures.thinned c.requires.fit.ready) (word-stored c.store_words.result (loom_told g.H.Host c.open.new.self) (loom_told g.H.Host c.store_words.new.self) c.args.of c.args.i c.args.w c.store_words.ensures.stored);
-  lender = c.store_words.ensures.lender ∙ c.in-Ok.ensures.lender;
-  outside = c.store_words.ensures.outside ∙ c.in-Ok.ensures.outside;
+  lender = c.store_words.ensures.leaves.lender ∙ c.in-Ok.ensures.leaves.lender;
+  outside = c.store_words.ensures.leaves.outside ∙ c.in-Ok.ensures.leaves.outside;
 }
 
 pub returns-in-Ok-clause-own : goal.returns-in-Ok-clause-own
-returns-in-Ok-clause-own g c = then-store c.store_words.result g.H.Host c.args.self.now c.open.new.self c.store_words.new.self (name_at ((loom_told g.H.Host c.args.self.now).regs c.args.of)) c.in-Ok.s c.in-Ok.ensures.own c.store_words.ensures.resting c.store_words.ensures.sure c.in-Ok.ensures.sound.kept.parts.core c.store_words.ensures.sound
+returns-in-Ok-clause-own g c = then-store c.store_words.result g.H.Host c.args.self.now c.open.new.self c.store_words.new.self (name_at ((loom_told g.H.Host c.args.self.now).regs c.args.of)) c.in-Ok.s c.in-Ok.ensures.own c.store_words.ensures.resting c.store_words.ensures.sure c.open.new.self.pager.levels.whole.parts.core c.store_words.ensures.leaves.sound
 
 pub returns-in-Err-clause-own : goal.returns-in-Err-clause-own
 returns-in-Err-clause-own g c = err-store g.H.Host c.args.self.now c.open.new.self (name_at ((loom_told g.H.Host c.args.self.now).regs c.args.of)) c.in-Err.f c.in-Err.ensures.own
@@ -50,15 +53,15 @@ returns-in-Ok-clause-cached g c = then-keeps c.store_words.result g.H.Host c.arg
 pub returns-in-Ok-clause-damage : goal.returns-in-Ok-clause-damage
 returns-in-Ok-clause-damage g c =
     let m = c.args.self.now in
-    thinned-damage c.store_words.result g.H.Host m c.open.new.self c.args.of c.in-Ok.s.0 c.store_words.new.self.pager.levels.disk.rest (HasRoom m.pager.levels.parts (words_read c.store_words.new.self) 27) c.in-Ok.ensures.sound c.in-Ok.ensures.thinned c.requires.may.names c.in-Ok.ensures.word c.store_words.ensures.damage
+    thinned-damage c.store_words.result g.H.Host m c.open.new.self c.args.of c.in-Ok.s.0 c.store_words.new.self.pager.levels.disk.rest (HasRoom m.pager.levels.parts (words_read c.store_words.new.self) 27) c.in-Ok.ensures.leaves.sound c.in-Ok.ensures.thinned c.requires.may.names c.in-Ok.ensures.opened.word c.store_words.ensures.damage
 
 pub returns-in-Ok-clause-minds : goal.returns-in-Ok-clause-minds
 returns-in-Ok-clause-minds g c =
     let n = name_at ((loom_told g.H.Host c.args.self.now).regs c.args.of) in
-    minds-stored c.store_words.result g.H.Host c.args.self.now c.open.new.self c.store_words.new.self (λ k. k ≡ n) c.in-Ok.ensures.minds c.in-Ok.ensures.sound.kept.parts.core c.store_words.ensures.sound c.store_words.ensures.resting c.store_words.ensures.none c.store_words.ensures.cached
+    minds-stored c.store_words.result g.H.Host c.args.self.now c.open.new.self c.store_words.new.self (λ k. k ≡ n) c.in-Ok.ensures.minds c.open.new.self.pager.levels.whole.parts.core c.store_words.ensures.leaves.sound c.store_words.ensures.resting c.store_words.ensures.none c.store_words.ensures.cached
 
 pub returns-in-Ok-clause-brings : goal.returns-in-Ok-clause-brings
-returns-in-Ok-clause-brings g c = brings-then c.args.self.now c.open.new.self c.store_words.new.self _ c.open.ensures.brings c.store_words.ensures.brings
+returns-in-Ok-clause-brings g c = brings-then c.args.self.now c.open.new.self c.store_words.new.self _ c.open.ensures.brings c.store_words.ensures.leaves.fetches
 
 pub returns-in-Ok-clause-gone : goal.returns-in-Ok-clause-gone
 returns-in-Ok-clause-gone g c = done-by c.store_words.result g.H.Host c.args.self.now c.open.new.self c.store_words.new.self (name_at ((loom_told g.H.Host c.args.self.now).regs c.args.of)) (SetWord c.args.of c.args.i c.args.w) c.in-Ok.ensures.thinned c.in-Ok.ensures.freed (stored-heap c.store_words.result g.H.Host c.open.new.self c.store_words.new.self (SetWord c.args.of c.args.i c.args.w) (word-stored c.store_words.result (loom_told g.H.Host c.open.new.self) (loom_told g.H.Host c.store_words.new.self) c.args.of c.args.i c.args.w c.store_words.ensures.stored))

@@ -45,17 +45,20 @@ pub returns-then-is_settled-clause-stays : goal.returns-then-is_settled-clause-s
 unfolding is_resident
 returns-then-is_settled-clause-stays g c = λ enough told k here has. subst (λ (p : Parts). has_body (core_of p) ((core_of p).find k) ≡ true) (sym c.count_anew.ensures.parts) here
 
-pub returns-then-is_settled-clause-whole : goal.returns-then-is_settled-clause-whole
-returns-then-is_settled-clause-whole g c = λ room enough. ap (λ (z : Told). z.heap) c.count_anew.ensures.begun.same
+pub returns-then-is_settled-clause-untouched : goal.returns-then-is_settled-clause-untouched
+returns-then-is_settled-clause-untouched g c = λ room enough. record {
+  whole = ap (λ (z : Told). z.heap) c.count_anew.ensures.begun.same;
+  idle = rested-idle (Ok tt) c.args.self.now c.count_anew.new.self (has-rested g c);
+  cached = rested-cached (Ok tt) g.H.Host c.args.self.now c.count_anew.new.self (has-rested g c);
+}
 
-pub returns-then-is_settled-clause-idle : goal.returns-then-is_settled-clause-idle
-returns-then-is_settled-clause-idle g c = λ room enough. rested-idle (Ok tt) c.args.self.now c.count_anew.new.self (has-rested g c)
-
-pub returns-then-is_settled-clause-cached : goal.returns-then-is_settled-clause-cached
-returns-then-is_settled-clause-cached g c = λ room enough. rested-cached (Ok tt) g.H.Host c.args.self.now c.count_anew.new.self (has-rested g c)
-
-pub returns-then-is_settled-clause-minds : goal.returns-then-is_settled-clause-minds
-returns-then-is_settled-clause-minds g c = λ told. minds-anew g.H.Host c.args.self.now c.args.self.now c.count_anew.new.self None (minds-refl g.H.Host c.args.self.now (λ k. ⊥) c.requires.fit.sound) c.count_anew.ensures.same
+pub returns-then-is_settled-clause-ended : goal.returns-then-is_settled-clause-ended
+returns-then-is_settled-clause-ended g c = record {
+  none = ap (λ (k : Ledger). k.made) c.count_anew.ensures.ledger;
+  minds = λ told. minds-anew g.H.Host c.args.self.now c.args.self.now c.count_anew.new.self None (minds-refl g.H.Host c.args.self.now (λ k. ⊥) c.requires.fit.sound) c.count_anew.ensures.same;
+  due = time-same g.H.Host c.args.self.now c.count_anew.new.self (ap (λ m. m.due) c.count_anew.ensures.same);
+  flag = λ on. ap (λ m. m.thinned) c.count_anew.ensures.same ∙ on;
+}
 
 pub returns-then-is_settled-clause-rests : goal.returns-then-is_settled-clause-rests
 returns-then-is_settled-clause-rests g c = λ room enough. has-rested g c
@@ -74,11 +77,8 @@ returns-then-is_settled-clause-fit g c = record {
 
 -- ---- something had to
 
-pub returns-clause-idle : goal.returns-clause-idle
-returns-clause-idle g c = λ room enough. absurd (c.is_settled.ensures.no c.if-is_settled.false room enough)
-
-pub returns-clause-cached : goal.returns-clause-cached
-returns-clause-cached g c = λ room enough. absurd (c.is_settled.ensures.no c.if-is_settled.false room enough)
+pub returns-clause-untouched : goal.returns-clause-untouched
+returns-clause-untouched g c = λ room enough. absurd (c.is_settled.ensures.no c.if-is_settled.false room enough)
 
 pub returns-clause-rests : goal.returns-clause-rests
 returns-clause-rests g c = λ room enough. absurd (c.is_settled.ensures.no c.if-is_settled.false room enough)
@@ -88,9 +88,3 @@ returns-then-is_settled-clause-thins g c = λ less. absurd (let enough = (c.is_s
 
 pub returns-then-is_settled-clause-lasts : goal.returns-then-is_settled-clause-lasts
 returns-then-is_settled-clause-lasts g c = λ less. absurd (let enough = (c.is_settled.ensures.yes c.if-is_settled.true).0 in omega (arith, less, enough))
-
-pub returns-then-is_settled-clause-due : goal.returns-then-is_settled-clause-due
-returns-then-is_settled-clause-due g c = time-same g.H.Host c.args.self.now c.count_anew.new.self (ap (λ m. m.due) c.count_anew.ensures.same)
-
-pub returns-then-is_settled-clause-flag : goal.returns-then-is_settled-clause-flag
-returns-then-is_settled-clause-flag g c = λ on. ap (λ m. m.thinned) c.count_anew.ensures.same ∙ on

@@ -49,65 +49,67 @@ place-same g c = ap (λ (e : Entry). place_of e.state) c.put_byte.ensures.entry
 name-same : (g : given.Over) (c : goal.After-levels-then-fits-1 g) → ((core_of c.put_byte.new.p).entries c.args.s.0).name ≡ ((core_of c.args.self.now.pager.levels.parts).entries c.args.s.0).name
 name-same g c = ap (λ (e : Entry). e.name) c.put_byte.ensures.entry
 
-pub returns-then-fits-clause-outside : goal.returns-then-fits-clause-outside
-unfolding loom_outside
-returns-then-fits-clause-outside g c = refl
-
 pub returns-then-fits-clause-stored : goal.returns-then-fits-clause-stored
 unfolding loom_told
 returns-then-fits-clause-stored g c =
     let m = c.args.self.now in
     let p = c.place_of_body-place.result.place in
-    stored-is g.H.Host m c.put_byte.new.p (SetByte c.args.of c.args.i c.args.b) c.args.of c.args.s.0 p c.requires.sound.kept c.put_byte.ensures.parts c.put_byte.ensures.within c.place_of_body-place.ensures (place-same g c) (name-same g c) c.requires.gone refl refl c.requires.word
+    stored-is g.H.Host m c.put_byte.new.p (SetByte c.args.of c.args.i c.args.b) c.args.of c.args.s.0 p c.requires.fit.sound.kept c.put_byte.ensures.parts c.put_byte.ensures.within c.place_of_body-place.ensures (place-same g c) (name-same g c) c.requires.gone refl refl c.requires.word
     (λ told.
     let disk = disk_of g.H.Host m.pager.levels.disk.host.now m.pager.levels.disk.rest in
-    let core = c.requires.sound.kept.parts.core in
+    let core = c.args.self.now.pager.levels.whole.parts.core in
     let used = placed-used ((core_of m.pager.levels.parts).entries c.args.s.0).state p c.place_of_body-place.ensures in
     let there = held-at (core_of m.pager.levels.parts) disk ((core_of m.pager.levels.parts).entries c.args.s.0).name c.args.s.0 p (core.found c.args.s.0 used) c.place_of_body-place.ensures in
     body-told (g.H.Host.tells Work) (core_of m.pager.levels.parts) (core_of c.put_byte.new.p) disk disk m.ledger.next ((core_of m.pager.levels.parts).entries c.args.s.0).name _ (object_at (core_of m.pager.levels.parts) disk ((core_of m.pager.levels.parts).entries c.args.s.0) p) (λ b. with_bytes b c.args.i (c.args.b ∷ [])) told
     (ap (meant (core_of m.pager.levels.parts).entries [] 0) (sym c.requires.word) ∙ meant-short (core_of m.pager.levels.parts).entries [] 0 c.args.s.0 (core.short c.args.s.0 used))
     there
-    (c.put_byte.ensures.held disk (object_at (core_of m.pager.levels.parts) disk ((core_of m.pager.levels.parts).entries c.args.s.0) p) (c.requires.sound.over.backed told) there))
+    (c.put_byte.ensures.held disk (object_at (core_of m.pager.levels.parts) disk ((core_of m.pager.levels.parts).entries c.args.s.0) p) (c.requires.fit.sound.over.backed told) there))
 
 rewritten-of : (g : given.Over) (c : goal.After-levels-then-fits-1 g) → IsTrue (g.H.Host.tells Work) → IsRewritten (core_of c.args.self.now.pager.levels.parts) (core_of c.put_byte.new.p) (disk_of g.H.Host c.args.self.now.pager.levels.disk.host.now c.args.self.now.pager.levels.disk.rest) c.args.s.0 c.place_of_body-place.result.place (with_bytes (object_at (core_of c.args.self.now.pager.levels.parts) (disk_of g.H.Host c.args.self.now.pager.levels.disk.host.now c.args.self.now.pager.levels.disk.rest) ((core_of c.args.self.now.pager.levels.parts).entries c.args.s.0) c.place_of_body-place.result.place).body c.args.i (c.args.b ∷ []))
 rewritten-of g c told =
     let m = c.args.self.now in
     let p = c.place_of_body-place.result.place in
     let disk = disk_of g.H.Host m.pager.levels.disk.host.now m.pager.levels.disk.rest in
-    let core = c.requires.sound.kept.parts.core in
+    let core = c.args.self.now.pager.levels.whole.parts.core in
     let o = object_at (core_of m.pager.levels.parts) disk ((core_of m.pager.levels.parts).entries c.args.s.0) p in
     record {
       core = c.put_byte.ensures.parts.core;
-      backed = c.put_byte.ensures.backed disk (c.requires.sound.over.backed told);
+      backed = c.put_byte.ensures.backed disk (c.requires.fit.sound.over.backed told);
       place = c.place_of_body-place.ensures;
       fields = bytes-fields o.body c.args.i (c.args.b ∷ []);
-      stored = c.put_byte.ensures.held disk o (c.requires.sound.over.backed told)
+      stored = c.put_byte.ensures.held disk o (c.requires.fit.sound.over.backed told)
           (held-at (core_of m.pager.levels.parts) disk ((core_of m.pager.levels.parts).entries c.args.s.0).name c.args.s.0 p (core.found c.args.s.0 (placed-used ((core_of m.pager.levels.parts).entries c.args.s.0).state p c.place_of_body-place.ensures)) c.place_of_body-place.ensures);
-      valued = c.put_byte.ensures.valued disk (c.requires.sound.over.backed told) (c.requires.sound.over.valued told);
+      valued = c.put_byte.ensures.valued disk (c.requires.fit.sound.over.backed told) (c.requires.fit.sound.over.valued told);
       find = c.put_byte.ensures.find;
       changes = c.put_byte.ensures.within.changes;
     }
 
-pub returns-then-fits-clause-sound : goal.returns-then-fits-clause-sound
-returns-then-fits-clause-sound g c =
-    let m = c.args.self.now in
-    let p = c.place_of_body-place.result.place in
-    let disk = disk_of g.H.Host m.pager.levels.disk.host.now m.pager.levels.disk.rest in
-    let core = c.requires.sound.kept.parts.core in
-    let o = object_at (core_of m.pager.levels.parts) disk ((core_of m.pager.levels.parts).entries c.args.s.0) p in
-    record {
-      kept = stored-kept m.pager.levels.parts c.put_byte.new.p m.regs m.pager.pinned m.ledger c.args.s.0 p c.requires.sound.kept c.put_byte.ensures.parts c.put_byte.ensures.within c.place_of_body-place.ensures (place-same g c) (name-same g c) c.put_byte.ensures.size;
-      over = stored-over g.H.Host m.pager.levels.disk.host.now m.pager.levels.disk.rest (core_of m.pager.levels.parts) (core_of c.put_byte.new.p) m.ledger c.args.s.0 c.requires.sound.over c.put_byte.ensures.within (ap fresh_by c.put_byte.ensures.entry) c.put_byte.ensures.backed c.put_byte.ensures.valued;
-      exact = exact-rewritten g.H.Host m.pager.levels.parts c.put_byte.new.p m.pager.levels.disk.host.now m.pager.levels.disk.rest m.ledger.next c.args.s.0 p (with_bytes o.body c.args.i (c.args.b ∷ [])) c.requires.sound.exact (rewritten-of g c);
-      soon = c.requires.sound.soon;
-      thin = thin-rewritten g.H.Host m c.put_byte.new.p _ c.args.s.0 p (with_bytes o.body c.args.i (c.args.b ∷ [])) c.requires.sound (ap (λ (t : Told). t.regs) (returns-then-fits-clause-stored g c).same) (ap (λ (t : Told). t.slots) (returns-then-fits-clause-stored g c).same) (rewritten-of g c);
-    }
+pub returns-then-fits-clause-leaves : goal.returns-then-fits-clause-leaves
+unfolding loom_outside fetched
+returns-then-fits-clause-leaves g c = record {
+  sound =
+      let m = c.args.self.now in
+      let p = c.place_of_body-place.result.place in
+      let disk = disk_of g.H.Host m.pager.levels.disk.host.now m.pager.levels.disk.rest in
+      let core = c.args.self.now.pager.levels.whole.parts.core in
+      let o = object_at (core_of m.pager.levels.parts) disk ((core_of m.pager.levels.parts).entries c.args.s.0) p in
+      record {
+        kept = stored-kept m.pager.levels.parts c.put_byte.new.p m.regs m.pager.pinned m.ledger c.args.s.0 p m.pager.levels.whole c.requires.fit.sound.kept c.put_byte.ensures.parts c.put_byte.ensures.within c.place_of_body-place.ensures (place-same g c) (name-same g c) c.put_byte.ensures.size;
+        over = stored-over g.H.Host m.pager.levels.disk.host.now m.pager.levels.disk.rest (core_of m.pager.levels.parts) (core_of c.put_byte.new.p) m.ledger c.args.s.0 c.requires.fit.sound.over c.put_byte.ensures.within (ap fresh_by c.put_byte.ensures.entry) c.put_byte.ensures.backed c.put_byte.ensures.valued;
+        exact = exact-rewritten g.H.Host m.pager.levels.parts c.put_byte.new.p m.pager.levels.disk.host.now m.pager.levels.disk.rest m.ledger.next c.args.s.0 p (with_bytes o.body c.args.i (c.args.b ∷ [])) c.requires.fit.sound.exact (rewritten-of g c);
+        soon = c.requires.fit.sound.soon;
+        thin = thin-rewritten g.H.Host m c.put_byte.new.p _ c.args.s.0 p (with_bytes o.body c.args.i (c.args.b ∷ [])) c.requires.fit.sound (ap (λ (t : Told). t.regs) (returns-then-fits-clause-stored g c).same) (ap (λ (t : Told). t.slots) (returns-then-fits-clause-stored g c).same) (rewritten-of g c);
+      };
+  fetches = refl;
+  lender = refl;
+  outside = refl;
+}
 
 none-there : (g : given.Over) (c : goal.After-refuse g) → IsTrue (loom_told g.H.Host c.args.self.now).tells → ⊥
 unfolding loom_told core_of
 none-there g c = λ told.
     let m = c.args.self.now in
-    let can = bytes-can (g.H.Host.tells Work) (core_of m.pager.levels.parts) (disk_of g.H.Host m.pager.levels.disk.host.now m.pager.levels.disk.rest) m.ledger.next c.args.s.0 c.requires.there.0 c.args.i _ told c.requires.sound.kept.parts.core c.requires.there.1 (ap (meant (core_of m.pager.levels.parts).entries [] 0) (sym c.requires.word)) (c.requires.may told) in
+    let can = bytes-can (g.H.Host.tells Work) (core_of m.pager.levels.parts) (disk_of g.H.Host m.pager.levels.disk.host.now m.pager.levels.disk.rest) m.ledger.next c.args.s.0 c.requires.there.0 c.args.i _ told c.args.self.now.pager.levels.whole.parts.core c.requires.there.1 (ap (meant (core_of m.pager.levels.parts).entries [] 0) (sym c.requires.word)) (c.requires.may told) in
     let e = c.used_entry-e.ensures in
     let kind_ : HasBytes c.used_entry-e.result.kind = subst (λ (k : Kind). HasBytes k) (ap (λ (e : Entry). e.kind) (sym c.used_entry-e.ensures)) can.0 in
     let past = c.has_byte-fits.ensures.no c.if-fits.false kind_ in
@@ -116,7 +118,7 @@ none-there g c = λ told.
     omega (arith, past, low, same)
 
 pub returns-clause-err : goal.returns-clause-err
-returns-clause-err g c = let b = told-bounds g.H.Host c.args.self.now in damaged-refused (loom_told g.H.Host c.args.self.now) (loom_told g.H.Host c.refuse.new.self) (SetByte c.args.of c.args.i c.args.b) _ _ c.refuse.result c.refuse.ensures.told c.refuse.ensures.result c.requires.ready refl tt c.refuse.ensures.later (none-there g c) b.0 b.1
+returns-clause-err g c = let b = told-bounds g.H.Host c.args.self.now in damaged-refused (loom_told g.H.Host c.args.self.now) (loom_told g.H.Host c.refuse.new.self) (SetByte c.args.of c.args.i c.args.b) _ _ c.refuse.result c.refuse.ensures.told c.refuse.ensures.result c.requires.fit.ready refl tt c.refuse.ensures.later (none-there g c) b.0 b.1
 
 pub returns-then-fits-clause-resting : goal.returns-then-fits-clause-resting
 returns-then-fits-clause-resting g c = rest-refl c.args.self.now _ (store-remains c.args.s.0 (core_of c.args.self.now.pager.levels.parts) (core_of c.put_byte.new.p) c.put_byte.ensures.within (place-same g c) (name-same g c)) refl refl refl
@@ -129,7 +131,7 @@ pub returns-then-fits-clause-cached : goal.returns-then-fits-clause-cached
 returns-then-fits-clause-cached g c =
     let m = c.args.self.now in
     let core = c.put_byte.ensures.parts.core in
-    marks-keep g.H.Host m _ c.requires.sound core (within-marks (core_of m.pager.levels.parts) (core_of c.put_byte.new.p) c.args.s.0 c.requires.sound.kept.parts.core core c.put_byte.ensures.within) refl
+    marks-keep g.H.Host m _ c.requires.fit.sound core (within-marks (core_of m.pager.levels.parts) (core_of c.put_byte.new.p) c.args.s.0 c.args.self.now.pager.levels.whole.parts.core core c.put_byte.ensures.within) refl
 
 pub returns-clause-damage : goal.returns-clause-damage
 unfolding core_of
@@ -140,10 +142,6 @@ returns-then-fits-clause-none g c =
     let x = core_of c.args.self.now.pager.levels.parts in
     let y = core_of c.put_byte.new.p in
     came-remains x y (stored-came x y c.args.s.0 c.put_byte.ensures.within (place-same g c) (name-same g c))
-
-pub returns-then-fits-clause-brings : goal.returns-then-fits-clause-brings
-unfolding fetched
-returns-then-fits-clause-brings g c = refl
 
 pub invariant_of-levels : goal.invariant_of-levels
 invariant_of-levels g c =

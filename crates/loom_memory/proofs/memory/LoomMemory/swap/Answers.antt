@@ -3,7 +3,8 @@ use Rattle.std.proofs.Common.{subst, sym, refl, ◌∙◌}
 use Rattle.long_names.specs.State.{IsRef, name_at}
 use Rattle.long_names.specs.Access.{Swap, Nothing, IsUnpinned}
 use Rattle.object_memory.specs.Told.{Told}
-use Rattle.loom_memory.specs.Memory.{loom_told, IsQuiet}
+use Rattle.loom_memory.specs.Memory.{loom_told}
+use Rattle.loom_memory.specs.Gentle.{IsQuiet}
 use Rattle.loom_memory.proofs.AccessLaws.{after-quiet, refused-is, quiet-ready, quiet-trans}
 use Rattle.loom_memory.proofs.StoreLaws.{store-last, store-ready}
 use Rattle.loom_memory.proofs.SwapLaws.{put-away, swap-core}
@@ -12,10 +13,14 @@ use Rattle.loom_memory.proofs.KeepingLaws.{both-keep}
 use Rattle.loom_memory.proofs.MindLaws.{minds-swapped}
 use Rattle.loom_memory.proofs.memory.LoomMemory.swap.Goals as goal
 use Rattle.loom_memory.proofs.memory.LoomMemory.swap.Goals.{After-exchange}
+use Rattle.delta_counts.proofs.LowerLaws.{ok-of}
 use Rattle.loom_memory.proofs.memory.LoomMemory.swap.Given as given
 
-pub put_away-requires-in-Ok-clause-ready : goal.put_away-requires-in-Ok-clause-ready
-put_away-requires-in-Ok-clause-ready g c = quiet-ready (loom_told g.H.Host c.args.self.now) (loom_told g.H.Host c.put_away.new.self) c.in-Ok.ensures.quiet c.requires.fit.ready
+pub put_away-requires-in-Ok-clause-fit : goal.put_away-requires-in-Ok-clause-fit
+put_away-requires-in-Ok-clause-fit g c = record {
+  sound = c.in-Ok.ensures.leaves.sound;
+  ready = quiet-ready (loom_told g.H.Host c.args.self.now) (loom_told g.H.Host c.put_away.new.self) c.in-Ok.ensures.quiet c.requires.fit.ready;
+}
 
 pub put_away-requires-in-Ok-clause-name : goal.put_away-requires-in-Ok-clause-name
 put_away-requires-in-Ok-clause-name g c = subst (λ (z : Told). IsRef (z.regs c.args.b)) (sym c.in-Ok.ensures.quiet.same) c.requires.may.names.1
@@ -26,8 +31,11 @@ put_away-requires-in-Ok-clause-unpinned g c = subst (λ (z : Told). IsUnpinned z
 both-quiet : (g : given.Over) (c : After-exchange g) → IsQuiet (loom_told g.H.Host c.args.self.now) (loom_told g.H.Host c.put_away-in-Ok.new.self)
 both-quiet g c = quiet-trans (loom_told g.H.Host c.args.self.now) (loom_told g.H.Host c.put_away.new.self) (loom_told g.H.Host c.put_away-in-Ok.new.self) c.in-Ok.ensures.quiet c.in-Ok-put_away.ensures.quiet
 
-pub exchange-requires-clause-ready : goal.exchange-requires-clause-ready
-exchange-requires-clause-ready g c = quiet-ready (loom_told g.H.Host c.put_away.new.self) (loom_told g.H.Host c.put_away-in-Ok.new.self) c.in-Ok-put_away.ensures.quiet (quiet-ready (loom_told g.H.Host c.args.self.now) (loom_told g.H.Host c.put_away.new.self) c.in-Ok.ensures.quiet c.requires.fit.ready)
+pub exchange-requires-clause-fit : goal.exchange-requires-clause-fit
+exchange-requires-clause-fit g c = record {
+  sound = c.in-Ok-put_away.ensures.leaves.sound;
+  ready = quiet-ready (loom_told g.H.Host c.put_away.new.self) (loom_told g.H.Host c.put_away-in-Ok.new.self) c.in-Ok-put_away.ensures.quiet (quiet-ready (loom_told g.H.Host c.args.self.now) (loom_told g.H.Host c.put_away.new.self) c.in-Ok.ensures.quiet c.requires.fit.ready);
+}
 
 pub exchange-requires-clause-names : goal.exchange-requires-clause-names
 exchange-requires-clause-names g c =
@@ -35,17 +43,17 @@ exchange-requires-clause-names g c =
     (subst (λ (z : Told). IsRef (z.regs c.args.a)) (sym quiet.same) c.requires.may.names.0, subst (λ (z : Told). IsRef (z.regs c.args.b)) (sym quiet.same) c.requires.may.names.1)
 
 pub exchange-requires-clause-away : goal.exchange-requires-clause-away
-exchange-requires-clause-away g c = (c.in-Ok-put_away.ensures.leaves c.args.a c.in-Ok.ensures.away, c.in-Ok-put_away.ensures.away)
+exchange-requires-clause-away g c = (c.in-Ok-put_away.ensures.still c.args.a c.in-Ok.ensures.away, c.in-Ok-put_away.ensures.away)
 
 pub returns-in-Ok-put_away-clause-access : goal.returns-in-Ok-put_away-clause-access
 returns-in-Ok-put_away-clause-access g c = store-last c.exchange.result (loom_told g.H.Host c.args.self.now) (loom_told g.H.Host c.put_away-in-Ok.new.self) (loom_told g.H.Host c.exchange.new.self) (Swap c.args.a c.args.b) refl tt refl (both-quiet g c) c.exchange.ensures.swapped c.exchange.ensures.err (swap-core (loom_told g.H.Host c.args.self.now) c.args.a c.args.b)
 
 pub returns-in-Ok-put_away-clause-fit : goal.returns-in-Ok-put_away-clause-fit
 returns-in-Ok-put_away-clause-fit g c = record {
-  sound = c.exchange.ensures.sound;
+  sound = c.exchange.ensures.leaves.sound;
   ready = store-ready c.exchange.result (loom_told g.H.Host c.put_away-in-Ok.new.self) (loom_told g.H.Host c.exchange.new.self) (Swap c.args.a c.args.b) refl (quiet-ready (loom_told g.H.Host c.args.self.now) (loom_told g.H.Host c.put_away-in-Ok.new.self) (both-quiet g c) c.requires.fit.ready) c.exchange.ensures.swapped;
-  lender = c.exchange.ensures.lender ∙ c.in-Ok-put_away.ensures.lender ∙ c.in-Ok.ensures.lender;
-  outside = c.exchange.ensures.outside ∙ c.in-Ok-put_away.ensures.outside ∙ c.in-Ok.ensures.outside;
+  lender = c.exchange.ensures.leaves.lender ∙ c.in-Ok-put_away.ensures.leaves.lender ∙ c.in-Ok.ensures.leaves.lender;
+  outside = c.exchange.ensures.leaves.outside ∙ c.in-Ok-put_away.ensures.leaves.outside ∙ c.in-Ok.ensures.leaves.outside;
 }
 
 pub returns-in-Err-put_away-clause-access : goal.returns-in-Err-put_away-clause-access
@@ -59,8 +67,8 @@ pub returns-in-Ok-put_away-clause-own : goal.returns-in-Ok-put_away-clause-own
 returns-in-Ok-put_away-clause-own g c =
     let first = c.in-Ok.ensures in
     let second = c.in-Ok-put_away.ensures in
-    put-away c.exchange.result g.H.Host c.args.self.now c.put_away.new.self c.put_away-in-Ok.new.self c.exchange.new.self c.args.a c.args.b second.sound first.quiet (both-quiet g c) c.requires.may.names.0 c.requires.may.names.1 (second.leaves c.args.a first.away) second.away
-    first.others second.others first.fetches second.fetches c.exchange.ensures.parts c.exchange.ensures.fetches
+    put-away c.exchange.result g.H.Host c.args.self.now c.put_away.new.self c.put_away-in-Ok.new.self c.exchange.new.self c.args.a c.args.b second.leaves.sound first.quiet (both-quiet g c) c.requires.may.names.0 c.requires.may.names.1 (second.still c.args.a first.away) second.away
+    first.others second.others first.leaves.fetches second.leaves.fetches c.exchange.ensures.parts (ok-of c.exchange.result c.exchange.ensures.leaves.fetches)
 
 pub returns-in-Ok-put_away-clause-cached : goal.returns-in-Ok-put_away-clause-cached
 returns-in-Ok-put_away-clause-cached g c =

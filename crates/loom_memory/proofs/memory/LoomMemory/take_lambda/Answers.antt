@@ -16,19 +16,24 @@ unfolding loom_told
 returns-in-Ok-clause-taken g c =
     let n = c.lambda_word.new.self in
     let b = told-bounds g.H.Host n in
-    taken-quiet (loom_told g.H.Host c.args.self.now) (loom_told g.H.Host n) (loom_told g.H.Host c.put_word.new.self) c.args.to c.args.of c.args.i (meant (core_of n.pager.levels.parts).entries [] 0 c.in-Ok.w) b.0 b.1 c.in-Ok.ensures.quiet c.put_word.ensures.told (λ told. c.in-Ok.ensures.means told)
+    taken-quiet (loom_told g.H.Host c.args.self.now) (loom_told g.H.Host n) (loom_told g.H.Host c.put_word.new.self) c.args.to c.args.of c.args.i (meant (core_of n.pager.levels.parts).entries [] 0 c.in-Ok.w) b.0 b.1 c.in-Ok.ensures.peeks.quiet c.put_word.ensures.told (λ told. c.in-Ok.ensures.means told)
 
 pub returns-in-Err-clause-err : goal.returns-in-Err-clause-err
 returns-in-Err-clause-err g c = c.in-Err.ensures.err (Field c.args.to c.args.of c.args.i) tt refl
 
 pub returns-in-Ok-clause-peek : goal.returns-in-Ok-clause-peek
-returns-in-Ok-clause-peek g c = peek-trans g.H.Host c.args.self.now c.lambda_word.new.self c.put_word.new.self c.in-Ok.ensures.peek (steady-peek g.H.Host c.lambda_word.new.self c.put_word.new.self c.put_word.ensures.steady)
+returns-in-Ok-clause-peek g c = peek-trans g.H.Host c.args.self.now c.lambda_word.new.self c.put_word.new.self c.in-Ok.ensures.peeks.peek (steady-peek g.H.Host c.lambda_word.new.self c.put_word.new.self c.put_word.ensures.steady)
 
-pub returns-in-Ok-clause-brings : goal.returns-in-Ok-clause-brings
-returns-in-Ok-clause-brings g c = c.put_word.ensures.steady.idle.fetches ∙ c.lambda_word.ensures.brings
+pub returns-in-Ok-clause-leaves : goal.returns-in-Ok-clause-leaves
+returns-in-Ok-clause-leaves g c = record {
+  sound = c.put_word.ensures.leaves.sound;
+  fetches = c.put_word.ensures.steady.idle.fetches ∙ c.lambda_word.ensures.leaves.fetches;
+  lender = c.put_word.ensures.leaves.lender ∙ c.lambda_word.ensures.leaves.lender;
+  outside = c.put_word.ensures.leaves.outside ∙ c.lambda_word.ensures.leaves.outside;
+}
 
 pub returns-in-Ok-clause-stays : goal.returns-in-Ok-clause-stays
-returns-in-Ok-clause-stays g c = stays-on c.args.self.now c.lambda_word.new.self c.put_word.new.self (word_in c.args.self.now.regs c.args.to) (word_in c.lambda_word.new.self.regs c.args.to) (keeps-same c.args.self.now c.lambda_word.new.self c.in-Ok.ensures.flag) (word-same c.args.self.now c.lambda_word.new.self c.args.to c.in-Ok.ensures.regs) c.put_word.ensures.stays
+returns-in-Ok-clause-stays g c = stays-on c.args.self.now c.lambda_word.new.self c.put_word.new.self (word_in c.args.self.now.regs c.args.to) (word_in c.lambda_word.new.self.regs c.args.to) (keeps-same c.args.self.now c.lambda_word.new.self c.in-Ok.ensures.peeks.flag) (word-same c.args.self.now c.lambda_word.new.self c.args.to c.in-Ok.ensures.peeks.regs) c.put_word.ensures.stays
 
 pub returns-in-Ok-clause-due : goal.returns-in-Ok-clause-due
-returns-in-Ok-clause-due g c = c.put_word.ensures.due ∙ c.in-Ok.ensures.due
+returns-in-Ok-clause-due g c = c.put_word.ensures.due ∙ c.in-Ok.ensures.peeks.due

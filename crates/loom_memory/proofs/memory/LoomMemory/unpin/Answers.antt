@@ -13,10 +13,10 @@ returns-clause-told g c = c.put_slot.ensures.told
 
 pub returns-clause-fit : goal.returns-clause-fit
 returns-clause-fit g c = record {
-  sound = c.put_slot.ensures.sound;
+  sound = c.put_slot.ensures.leaves.sound;
   ready = λ ready. subst (λ (t : Told). IsReady t) (sym c.put_slot.ensures.told) (ready-unpin (loom_told g.H.Host c.args.self.now) (set_slot (loom_told g.H.Host c.args.self.now).slots c.args.slot None) c.args.slot refl ready);
-  lender = c.put_slot.ensures.lender;
-  outside = c.put_slot.ensures.outside;
+  lender = c.put_slot.ensures.leaves.lender;
+  outside = c.put_slot.ensures.leaves.outside;
 }
 
 pub returns-clause-steady : goal.returns-clause-steady

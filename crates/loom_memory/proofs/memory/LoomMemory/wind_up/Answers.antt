@@ -12,22 +12,22 @@ use Rattle.loom_memory.proofs.PagerLaws.{pager-ready}
 use Rattle.loom_memory.proofs.memory.LoomMemory.wind_up.Goals as goal
 
 pub close-requires-clause-ready : goal.close-requires-clause-ready
-close-requires-clause-ready g c = pager-ready g.H.Host c.let_go.new.self c.let_go.ensures.sound
+close-requires-clause-ready g c = pager-ready g.H.Host c.let_go.new.self c.let_go.ensures.leaves.sound
 
 pub returns-in-Ok-clause-kept : goal.returns-in-Ok-clause-kept
 returns-in-Ok-clause-kept g c = λ told.
-    kept-left g.H.Host c.let_go.new.self c.close.new.self.levels.disk.host.now c.close.new.self.levels.disk.rest _ c.let_go.ensures.sound.exact (ap (λ (z : Told). z.heap) c.let_go.ensures.told) told (c.in-Ok.ensures.kept told)
+    kept-left g.H.Host c.let_go.new.self c.close.new.self.levels.disk.host.now c.close.new.self.levels.disk.rest _ c.let_go.ensures.leaves.sound.exact (ap (λ (z : Told). z.heap) c.let_go.ensures.told) told (c.in-Ok.ensures.kept told)
 
 pub returns-in-Ok-clause-outside : goal.returns-in-Ok-clause-outside
 unfolding loom_outside
-returns-in-Ok-clause-outside g c = work-outside g.H.Host c.let_go.new.self.pager.levels.disk.host.now c.close.new.self.levels.disk.host.now c.close.ensures.disk.work ∙ c.let_go.ensures.outside
+returns-in-Ok-clause-outside g c = work-outside g.H.Host c.let_go.new.self.pager.levels.disk.host.now c.close.new.self.levels.disk.host.now c.close.ensures.disk.work ∙ c.let_go.ensures.leaves.outside
 
 pub returns-in-Err-clause-lost : goal.returns-in-Err-clause-lost
 returns-in-Err-clause-lost g c = subst (λ (f : MemFault). IsLost f) (sym c.refuse.ensures.result) (fault-lost c.in-Err.f c.refusal_of-f.result c.refusal_of-f.ensures)
 
 pub returns-in-Err-clause-outside : goal.returns-in-Err-clause-outside
 unfolding loom_outside
-returns-in-Err-clause-outside g c = c.refuse.ensures.outside ∙ work-outside g.H.Host c.let_go.new.self.pager.levels.disk.host.now c.close.new.self.levels.disk.host.now c.close.ensures.disk.work ∙ c.let_go.ensures.outside
+returns-in-Err-clause-outside g c = c.refuse.ensures.outside ∙ work-outside g.H.Host c.let_go.new.self.pager.levels.disk.host.now c.close.new.self.levels.disk.host.now c.close.ensures.disk.work ∙ c.let_go.ensures.leaves.outside
 
 pub returns-in-Ok-clause-transcript : goal.returns-in-Ok-clause-transcript
 returns-in-Ok-clause-transcript g c =
@@ -63,7 +63,7 @@ returns-in-Err-clause-bounds g c =
     (subst (λ b. SameBounds b (loom_told g.H.Host n).bounds) (ap (λ (z : Told). z.bounds) c.let_go.ensures.told) (work-bounds g.H.Host m n c.close.ensures.disk.work c.close.ensures.disk.limit refl))
 
 pub returns-in-Ok-clause-lender : goal.returns-in-Ok-clause-lender
-returns-in-Ok-clause-lender g c = c.close.ensures.disk.lender ∙ c.let_go.ensures.lender
+returns-in-Ok-clause-lender g c = c.close.ensures.disk.lender ∙ c.let_go.ensures.leaves.lender
 
 pub returns-in-Err-clause-lender : goal.returns-in-Err-clause-lender
-returns-in-Err-clause-lender g c = c.refuse.ensures.lender ∙ c.close.ensures.disk.lender ∙ c.let_go.ensures.lender
+returns-in-Err-clause-lender g c = c.refuse.ensures.lender ∙ c.close.ensures.disk.lender ∙ c.let_go.ensures.leaves.lender

@@ -14,5 +14,5 @@ returns-clause-some g c = λ e. c.requires.kept.filled c.args.r (sym (word-is c.
 pub returns-clause-used : goal.returns-clause-used
 returns-clause-used g c = λ is.
     let m = c.args.self.now in
-    outside-used (core_of m.pager.levels.parts) (slice_index_or m.regs c.index.result 0) c.requires.kept.parts.core
-    (register-held (core_of m.pager.levels.parts) m.regs m.pager.pinned c.index.result (slice_index_or m.regs c.index.result 0) (kept-rooted m.pager.levels.parts m.regs m.pager.pinned m.ledger c.requires.kept) (old-there m.regs c.index.result c.index.result c.index.result refl refl c.index.ensures.within c.requires.kept.many) is)
+    outside-used (core_of m.pager.levels.parts) (slice_index_or m.regs c.index.result 0) c.args.self.now.pager.levels.whole.parts.core
+    (register-held (core_of m.pager.levels.parts) m.regs m.pager.pinned c.index.result (slice_index_or m.regs c.index.result 0) (kept-rooted m.pager.levels.parts m.regs m.pager.pinned m.ledger m.pager.levels.whole c.requires.kept) (old-there m.regs c.index.result c.index.result c.index.result refl refl c.index.ensures.within c.requires.kept.many) is)

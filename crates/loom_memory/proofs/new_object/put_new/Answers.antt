@@ -6,7 +6,7 @@ use Rattle.core_segment.specs.Segment.{largest_of, size_of}
 use Rattle.leaf_lambda.specs.Parts.{core_of}
 use Rattle.loom_memory.proofs.ClassLaws.{short-some}
 use Rattle.loom_memory.proofs.NewLaws.{IsOpened, leaf-bare, opened-new, opened-sound}
-use Rattle.loom_memory.proofs.making.put_new.Goals as goal
+use Rattle.loom_memory.proofs.new_object.put_new.Goals as goal
 
 pub new_leaf-s-requires-clause-absent : goal.new_leaf-s-requires-clause-absent
 unfolding core_of

@@ -3,8 +3,8 @@ ghost use Rattle.std.specs.Prelude.{◌≡◌, ◌<◌, ℕ, None, IsTrue, OnOk,
 ghost use Rattle.core_segment.specs.Segment.{largest_of, free_of};
 ghost use Rattle.object_table.specs.Table.{entries_of};
 
-use crate::bring::refusal_of;
 use crate::memory::LoomMemory;
+use crate::refusals::refusal_of;
 use leaf_lambda::Parts;
 use loom_host::Host;
 use object_memory::MemFault;
@@ -19,11 +19,13 @@ fn too_many(p: &Parts) -> u16
 }
 
 impl<'h, H: Host> LoomMemory<'h, H> {
+    ghost use Rattle.loom_memory.specs.Effects.{IsFaulted, Leaves, Pages};
+    ghost use Rattle.object_memory.specs.Fit.{MayCall, StaysCallable};
     ghost use Rattle.std.specs.Prelude.{Ok, Err};
     ghost use Rattle.object_memory.specs.Told.{has_slot, IsReady};
     ghost use Rattle.object_memory.specs.Contract.{Called, Follows, IsLater, KeepsSound, Thins};
-    ghost use Rattle.object_memory.specs.Fit.{MayCall, StaysCallable};
-    ghost use Rattle.loom_memory.specs.Memory.{loom_told, loom_outside, loom_lender, loom_parts, IsQuiet, IsSound};
+    ghost use Rattle.loom_memory.specs.Memory.{loom_told, loom_outside, loom_lender, loom_parts, IsSound};
+    ghost use Rattle.loom_memory.specs.Gentle.{IsQuiet};
     ghost use Rattle.loom_memory.specs.Freed.{IsAlive};
     ghost use Rattle.loom_memory.specs.Makings.{IsLost};
     ghost use Rattle.loom_memory.specs.Residents.{is_resident, fetched};
@@ -32,31 +34,19 @@ impl<'h, H: Host> LoomMemory<'h, H> {
 
     // More entries are asked for than there are, so everything leaves that may. That there are fewer is no refusal.
     fn put_out(&mut self) -> Result<(), MemFault>
-        requires sound { IsSound H.Host self.old }
-        requires ready { IsReady (loom_told H.Host self.old) }
-        ensures quiet { OnOk result (IsQuiet (loom_told H.Host self.old) (loom_told H.Host self.new)) }
+        requires fit { MayCall (IsSound H.Host) (loom_told H.Host) self.old }
+        ensures pages { OnOk result (Pages H.Host self.old self.new) }
         ensures pinned { OnOk result ((n : ℕ) → IsTrue (is_resident self.new n) → IsTrue (has_slot (loom_told H.Host self.new).slots n)) }
-        ensures fetches { fetched self.new ≡ fetched self.old }
-        ensures minds { OnOk result (MindsCache H.Host None self.old self.new (λ k. ⊥)) }
-        ensures sound { KeepsSound result (IsSound H.Host self.new) }
-        ensures err { IfErr result (λ f. Called {A = Unit {0}} (loom_told H.Host self.old) (loom_told H.Host self.new) Thins (Err f)) }
-        ensures fault { IfErr result IsLost }
-        ensures lender { loom_lender self.new ≡ loom_lender self.old }
-        ensures outside { loom_outside H.Host self.new ≡ loom_outside H.Host self.old }
+        ensures leaves { Leaves H.Host self.old self.new result }
+        ensures faulted { IfErr result (IsFaulted (loom_told H.Host self.old) (loom_told H.Host self.new)) }
     {
         let entries = too_many(&self.pager.levels.parts);
-        match self.room(0, entries) {
-            Ok(()) => {
+        match self.page(0, entries) {
+            Ok(_enough) => {
                 entries_are_counted(&self.pager.levels.parts.names.table);
                 Ok(())
             }
-            Err(f) => match f {
-                RoomFault::Short => Ok(()),
-                RoomFault::Disk(f) => {
-                    let f = refusal_of(f);
-                    Err(self.refuse(f))
-                }
-            },
+            Err(f) => Err(f),
         }
     }
 

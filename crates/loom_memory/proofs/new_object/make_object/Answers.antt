@@ -2,7 +2,7 @@ use Rattle.std.proofs.Common.{◌∙◌, ap, arith}
 use Rattle.core_segment.specs.Segment.{largest_of, size_of}
 use Rattle.leaf_lambda.specs.Parts.{core_of}
 use Rattle.loom_memory.proofs.NewLaws.{new-if, none-if, readied-if, sound-if}
-use Rattle.loom_memory.proofs.making.make_object.Goals as goal
+use Rattle.loom_memory.proofs.new_object.make_object.Goals as goal
 
 pub count_ahead-nil-requires-clause-spare : goal.count_ahead-nil-requires-clause-spare
 count_ahead-nil-requires-clause-spare c = let some = c.requires.spare in omega (arith, some)

@@ -2,14 +2,16 @@
 ghost use Rattle.std.specs.Prelude.{◌≡◌, ℕ, IsTrue, IfOk, IfErr, OnOk};
 ghost use Rattle.core_view.specs.Counts.{outside};
 
-use crate::bring::refusal_of;
 use crate::memory::LoomMemory;
+use crate::refusals::refusal_of;
 use disk_objects::DiskObjects;
 use long_names::REGISTERS;
 use loom_host::{Host, Role};
 use object_memory::{MemFault, Reg};
 
 impl<'h, H: Host> LoomMemory<'h, H> {
+    ghost use Rattle.loom_memory.specs.Effects.{LeavesBeside};
+    ghost use Rattle.std.specs.Prelude.{Ok};
     ghost use Rattle.object_memory.specs.Contract.{HasCause, SameBounds, Thins};
     ghost use Rattle.purger.specs.Closing.{HasKept};
     ghost use Rattle.loom_memory.specs.Ending.{AreNumbers};
@@ -21,9 +23,7 @@ impl<'h, H: Host> LoomMemory<'h, H> {
         requires sound { IsSound H.Host self.old }
         ensures told { loom_told H.Host self.new ≡ record (loom_told H.Host self.old) { regs = (loom_told H.Host self.new).regs } }
         ensures none { AreNumbers (loom_told H.Host self.new).regs }
-        ensures sound { IsSound H.Host self.new }
-        ensures lender { loom_lender self.new ≡ loom_lender self.old }
-        ensures outside { loom_outside H.Host self.new ≡ loom_outside H.Host self.old }
+        ensures leaves { LeavesBeside H.Host self.old self.new (Ok result) }
     {
         for i in 0..REGISTERS as u8 {
             self.put_word(Reg::new(i), 1);
@@ -35,9 +35,7 @@ impl<'h, H: Host> LoomMemory<'h, H> {
         requires sound { IsSound H.Host self.old }
         ensures told { loom_told H.Host self.new ≡ record (loom_told H.Host self.old) { regs = (loom_told H.Host self.new).regs; slots = (loom_told H.Host self.new).slots } }
         ensures loose { (t : ℕ) → outside (loom_core self.new) t ≡ 0 }
-        ensures sound { IsSound H.Host self.new }
-        ensures lender { loom_lender self.new ≡ loom_lender self.old }
-        ensures outside { loom_outside H.Host self.new ≡ loom_outside H.Host self.old }
+        ensures leaves { LeavesBeside H.Host self.old self.new (Ok result) }
     {
         self.clear_registers();
         self.unpin(0);

@@ -10,7 +10,7 @@ use Rattle.leaf_lambda.specs.declared.parts.Parts.{Parts}
 use Rattle.purger.proofs.GivingLaws.{used-entry}
 use Rattle.purger.proofs.SoundLaws.{parts-names}
 use Rattle.loom_memory.proofs.NewLaws.{counting-parts, counting-readied, raise-core, raised-at}
-use Rattle.loom_memory.proofs.making.raise.Goals as goal
+use Rattle.loom_memory.proofs.new_object.raise.Goals as goal
 
 pub add_change-requires-clause-names : goal.add_change-requires-clause-names
 add_change-requires-clause-names c = parts-names c.args.p.now c.requires.parts

@@ -4,7 +4,7 @@ use Rattle.loom_memory.proofs.NewLaws.{ahead-sound, readied-trans}
 use Rattle.core_view.specs.LevelSteps.{with_core}
 use Rattle.std.proofs.Common.{[], ◌∷◌}
 use Rattle.long_names.specs.declared.value.Value.TheVariants.{Ref}
-use Rattle.loom_memory.proofs.making.count_ahead.Goals as goal
+use Rattle.loom_memory.proofs.new_object.count_ahead.Goals as goal
 
 pub raise-requires-clause-used : goal.raise-requires-clause-used
 raise-requires-clause-used c = (c.entry_of_nil-nil.ensures.readied.live c.args.class.0 c.requires.class).0

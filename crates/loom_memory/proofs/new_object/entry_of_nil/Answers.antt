@@ -6,7 +6,7 @@ use Rattle.leaf_lambda.specs.Parts.{core_of}
 use Rattle.core_view.specs.Counted.{IsSound}
 use Rattle.core_view.specs.LevelSteps.{with_core}
 use Rattle.loom_memory.proofs.NewLaws.{leaf-nil, leaf-readied, nil-named, readied-refl}
-use Rattle.loom_memory.proofs.making.entry_of_nil.Goals as goal
+use Rattle.loom_memory.proofs.new_object.entry_of_nil.Goals as goal
 
 pub returns-in-Some-clause-nil : goal.returns-in-Some-clause-nil
 unfolding core_of
