@@ -29,6 +29,7 @@ pub mod EffectLaws
 pub mod EndLaws
 pub mod ClassLaws
 pub mod SayLaws
+pub mod ScratchLaws
 pub mod KeepingLaws
 pub mod KnownLaws
 pub mod TextLaws

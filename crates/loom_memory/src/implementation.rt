@@ -29,6 +29,11 @@ impl<'h, H: Host> ObjectMemory for LoomMemory<'h, H> {
     }
 
     #[inline(always)]
+    fn clear_scratch(&mut self) {
+        LoomMemory::clear_scratch(self);
+    }
+
+    #[inline(always)]
     fn known(&mut self, to: Reg, name: Name) -> Result<(), MemFault> {
         LoomMemory::known(self, to, name)
     }
@@ -91,6 +96,11 @@ impl<'h, H: Host> ObjectMemory for LoomMemory<'h, H> {
     #[inline(always)]
     fn field(&mut self, to: Reg, of: Reg, i: u32) -> Result<(), MemFault> {
         LoomMemory::field(self, to, of, i)
+    }
+
+    #[inline(always)]
+    fn number_at(&self, of: Reg, i: u32) -> Option<i16> {
+        LoomMemory::number_at(self, of, i)
     }
 
     #[inline(always)]

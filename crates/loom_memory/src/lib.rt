@@ -56,6 +56,7 @@ pub mod refusals;
 pub mod registers;
 pub mod residents;
 pub mod says;
+pub mod scratch;
 pub mod settling;
 pub mod slots;
 pub mod stores;
