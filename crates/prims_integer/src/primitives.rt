@@ -13,7 +13,7 @@ ghost use Rattle.contexts.specs.Keeping.{NeverKeeps};
 
 use crate::operation::{Arithmetic, Comparison, Operation};
 use crate::point::make_point;
-use contexts::{Answer, Cpu, Stop, answer, boolean, stack};
+use contexts::{Answer, Cpu, Stop, answer, boolean, peek_stack, stack};
 use object_memory::{ObjectMemory, Reg};
 
 /// The receiver and the argument on the stack, where both are SmallIntegers.
@@ -23,6 +23,11 @@ fn two_numbers<M: ObjectMemory>(m: &mut M, cpu: &Cpu) -> Result<Option<(i16, i16
     ensures range { IfOk result (λ found. IfSome found AreSmall) }
     ensures fit { StaysFit M.ObjectMemory m.old m.new result }
 {
+    if let Some(receiver) = peek_stack(m, cpu, 1) {
+        if let Some(argument) = peek_stack(m, cpu, 0) {
+            return Ok(Some((receiver, argument)));
+        }
+    }
     stack(m, cpu, Reg::R10, 1)?;
     stack(m, cpu, Reg::R11, 0)?;
     let Some(receiver) = m.as_int(Reg::R10) else {
