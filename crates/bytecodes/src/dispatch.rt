@@ -26,9 +26,9 @@ use crate::stacks::{
 };
 use crate::variables::Variable;
 use blue_model::Step;
-use contexts::{Cause, Cpu, Stop, clear, fetch, pop};
+use contexts::{Cause, Cpu, Stop, fetch, pop};
 use event_file::EventList;
-use long_names::{MACHINE_REGISTERS, Name, REGISTERS};
+use long_names::Name;
 use object_memory::{ObjectMemory, Reg};
 
 /// Whether a byte says a push, a store, a pop or an unconditional jump, or is unused.
@@ -191,7 +191,7 @@ fn rest<M: ObjectMemory>(m: &mut M)
 {
     m.int(Reg::SELECTOR, 0);
     m.int(Reg::NEW_METHOD, 0);
-    clear(m, MACHINE_REGISTERS as u8, REGISTERS as u8);
+    m.clear_scratch();
 }
 
 /// Fetches a bytecode and does it (interpret, chapter 28). Input comes from the event list. The bytecode isn't counted here.
@@ -209,7 +209,11 @@ pub fn step<M: ObjectMemory>(m: &mut M, cpu: &mut Cpu, events: &EventList) -> Re
         rest(m);
         return Ok(Step::Next);
     }
-    let step = bytecode(m, cpu, events, byte)?;
-    rest(m);
-    Ok(step)
+    match bytecode(m, cpu, events, byte) {
+        Ok(step) => {
+            rest(m);
+            Ok(step)
+        }
+        Err(stop) => Err(stop.again()),
+    }
 }

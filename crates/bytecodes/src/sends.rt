@@ -16,7 +16,7 @@ use crate::variables::literal_constant;
 use blue_model::Step;
 use blue_model::indexes::{ASSOCIATION_SIZE, SUPERCLASS_INDEX, VALUE_INDEX};
 use contexts::parts::{class_of, field, known, last_literal, number};
-use contexts::{Cause, Cpu, Stop, fetch, push, set_arguments, stack};
+use contexts::{Cause, Cpu, Stop, fetch, peek_stack, push, set_arguments, stack};
 use event_file::EventList;
 use long_names::Name;
 use object_memory::{ObjectMemory, Reg};
@@ -286,6 +286,9 @@ pub(crate) fn arithmetic_send<M: ObjectMemory>(
     ensures keeps { StepsBy cpu.old.vault result }
     ensures fit { StaysFit M.ObjectMemory m.old m.new result }
 {
+    if let Some(_) = peek_stack(m, cpu, 1) {
+        return tried_for(m, cpu, events, arithmetic_primitive(s), 1, s);
+    }
     stack(m, cpu, Reg::R10, 1)?;
     if m.as_int(Reg::R10).is_some() {
         return tried_for(m, cpu, events, arithmetic_primitive(s), 1, s);

@@ -1,6 +1,6 @@
 // What comes before a bytecode: the lines of the event list that are due, and then the timer.
-ghost use Rattle.std.specs.Prelude.{◌≡◌, ◌<◌, IsTrue, OnOk, length};
-ghost use Rattle.object_memory.specs.Told.{IsReady};
+ghost use Rattle.std.specs.Prelude.{◌≡◌, ◌<◌, Ok, IsTrue, OnOk, length};
+ghost use Rattle.object_memory.specs.Told.{Told, IsReady};
 ghost use Rattle.event_file.specs.declared.limits.TheConstants.{MOST_LINES};
 ghost use Rattle.blue_model.specs.declared.cpu.Cpu.{Cpu as Numbers};
 ghost use Rattle.blue_model.specs.Devices as model;
@@ -120,10 +120,21 @@ fn check_timer<M: ObjectMemory>(m: &mut M, cpu: &mut Cpu) -> Result<(), Stop>
     Ok(())
 }
 
+/// Whether nothing is due before a bytecode: no line comes at this count, nor the timer's tick. Then `due` changes nothing.
+#[inline(always)]
+pub fn is_idle(cpu: &Cpu, events: &EventList) -> bool
+    ensures { IsTrue result → (t : Told) → IsReady t → Serves t cpu.now t cpu.now (model.due events.now) (Ok tt) }
+{
+    let place = cpu.line as usize;
+    if is_due(events, place, cpu.ran) {
+        return false;
+    }
+    !is_reached(cpu.timer, clock(cpu))
+}
+
 /// Does what is due before a bytecode: the lines that come at this count, in order, and then the timer. A line's word joins the queue
 /// and signals the input semaphore; at Purge and Compact the memory puts out what it can, or closes its gaps, which changes nothing of
 /// the machine. In constant time where nothing is due.
-#[inline(always)]
 pub fn due<M: ObjectMemory>(m: &mut M, cpu: &mut Cpu, events: &EventList) -> Result<(), Stop>
     requires fit { IsFit M.ObjectMemory m.old }
     ensures serves { Serves (M.told m.old) cpu.old (M.told m.new) cpu.new (model.due events.now) result }

@@ -32,7 +32,7 @@ mod transcript;
 
 pub use contexts::{Answer, Cpu, Stop};
 pub use drawing::{picture, picture_row, picture_size};
-pub use events::due;
+pub use events::{due, is_idle};
 pub use fault::PictureFault;
 pub use pixels::MOST_ROW_BYTES;
 pub use state::restore;

@@ -22,7 +22,7 @@ use crate::observer::{NoObserver, Observer, tell};
 use crate::states::{begin, state_of};
 use bytecodes::{Step, step};
 use contexts::{Cpu, Stop, park};
-use devices::{PictureFault, due, picture};
+use devices::{PictureFault, due, is_idle, picture};
 use event_file::EventList;
 use image_format::State;
 use long_names::Octets;
@@ -44,8 +44,8 @@ pub(crate) fn check_switch<M: ObjectMemory>(m: &mut M, cpu: &mut Cpu) -> Result<
 }
 
 /// The lines that are due, the timer, a process switch where one waits, and one bytecode.
-#[inline(always)]
-fn turn<M: ObjectMemory>(m: &mut M, cpu: &mut Cpu, events: &EventList) -> Result<Step, Stop>
+#[inline(never)]
+fn whole_turn<M: ObjectMemory>(m: &mut M, cpu: &mut Cpu, events: &EventList) -> Result<Step, Stop>
     requires fit { IsFit M.ObjectMemory m.old }
     ensures serves { Speaks step.Next (M.told m.old) cpu.old (M.told m.new) cpu.new (model.turn events.now) result }
     ensures rest { OnOk result (HasRest (M.told m.new)) }
@@ -54,6 +54,24 @@ fn turn<M: ObjectMemory>(m: &mut M, cpu: &mut Cpu, events: &EventList) -> Result
 {
     due(m, cpu, events)?;
     check_switch(m, cpu)?;
+    step(m, cpu, events)
+}
+
+/// The same, at once where there is nothing before the bytecode.
+#[inline(always)]
+fn turn<M: ObjectMemory>(m: &mut M, cpu: &mut Cpu, events: &EventList) -> Result<Step, Stop>
+    requires fit { IsFit M.ObjectMemory m.old }
+    ensures serves { Speaks step.Next (M.told m.old) cpu.old (M.told m.new) cpu.new (model.turn events.now) result }
+    ensures rest { OnOk result (HasRest (M.told m.new)) }
+    ensures keeps { StepsBy cpu.old.vault result }
+    ensures fit { StaysFit M.ObjectMemory m.old m.new result }
+{
+    if cpu.waiting {
+        return whole_turn(m, cpu, events);
+    }
+    if !is_idle(cpu, events) {
+        return whole_turn(m, cpu, events);
+    }
     step(m, cpu, events)
 }
 

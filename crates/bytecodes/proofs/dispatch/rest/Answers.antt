@@ -24,4 +24,4 @@ pub returns-clause-serves : goal.returns-clause-serves
 returns-clause-serves g c = λ cpu.
     let ready = c.int-2.ensures.fit.ready (c.int.ensures.fit.ready c.requires.fit.ready) in
     read_last (clear_serves is_message ready (others _ _ _ c.int.ensures.told c.int-2.ensures.told) (λ r low. message _ _ _ r c.int.ensures.told c.int-2.ensures.told))
-    (clear_quiet _ _ 10 24 (omega arith) c.clear.ensures.fit.ready c.clear.ensures.rest c.clear.ensures.regs)
+    (clear_quiet _ _ 10 24 (omega arith) (c.clear_scratch.ensures.fit.ready ready) c.clear_scratch.ensures.rest c.clear_scratch.ensures.regs)
