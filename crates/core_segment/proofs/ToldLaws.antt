@@ -173,3 +173,17 @@ module _ (region firsts : List ℕ) (free i w : ℕ) (before : List Tile) (u : T
     chunks = chunks;
     links = links;
   }
+
+-- the chunk of which a word is written
+pub writes-to : (region firsts : List ℕ) (ts : List Tile) (free p i : ℕ) → IsLaid region firsts ts free → i < length (chunk region ts p).words → IsTold region ts p
+writes-to region firsts ts free p i laid low = told region firsts ts free p laid (owned region ts p (omega arith))
+
+pub writes : (region firsts : List ℕ) (ts : List Tile) (free p i w : ℕ) → IsLaid region firsts ts free → i < length (chunk region ts p).words
+    → IsWritten region firsts ts free p i w
+writes region firsts ts free p i w laid low =
+    let t = writes-to region firsts ts free p i laid low in
+    let s = subst (λ (us : List Tile). IsLaid region firsts us free) t.split laid in
+    let words = t.words in
+    subst (λ (us : List Tile). IsWritten region firsts us free p i w) (sym t.split)
+    (subst (λ (z : ℕ). IsWritten region firsts (t.before ++ t.tile ∷ t.after) free z i w) t.place
+    (written region firsts free i w t.before t.tile t.after t.own s (omega arith)))

@@ -35,3 +35,7 @@ unfolding with_zeros
 zeros-set [] n i w low = absurd (omega arith)
 zeros-set (v ∷ ws) n zero w low = refl
 zeros-set (v ∷ ws) n (suc i) w low = ap (λ (l : List ℕ). v ∷ l) (zeros-set ws n i w (omega arith))
+
+-- a word that was written is another one
+pub changed : (ws new : List ℕ) (n m i w : ℕ) → i < length ws → new ≡ slice_set ws i w → m ≡ n → with_zeros new m ≡ slice_set (with_zeros ws n) i w
+changed ws new n m i w low e f = ap (λ (l : List ℕ). with_zeros l m) e ∙ ap (λ (k : ℕ). with_zeros (slice_set ws i w) k) f ∙ zeros-set ws n i w low

@@ -4,6 +4,7 @@ use Rattle.std.specs.Prelude.{◌≡◌, ℕ, ◌+◌, ◌<◌, ◌≤◌, List,
 use Rattle.core_segment.specs.declared.segment.TheConstants.{HEADER}
 use Rattle.core_segment.specs.declared.segment.Moved.{Moved}
 use Rattle.core_segment.specs.declared.segment.Segment.{Segment}
+use Rattle.core_segment.specs.declared.segment.Start.{Start}
 use Rattle.core_segment.specs.Chunks.{Chunk, Placed, no_chunk, at_place, with_chunk}
 use Rattle.core_segment.specs.Layout.{placed_in, tiles_of, largest_in}
 
@@ -36,6 +37,10 @@ pub record SameRoom (old new : Segment) : Type 0 where
   pub size : size_of new ≡ size_of old
   pub free : free_of new ≡ free_of old
   pub largest : largest_of new ≡ largest_of old
+
+-- its words begin there
+abbrev pub IsStart : Segment → Start → Type 0
+IsStart g s = s.base.ptr ≡ g.region.base.ptr
 
 -- A chunk of so many words was given to an owner, at a place where none began. What its words are is left open.
 pub record IsTaken (old new : ℕ → Chunk) (p owner words : ℕ) : Type 0 where

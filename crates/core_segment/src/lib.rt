@@ -16,7 +16,7 @@
 //!
 //! The words lie in raw memory, which `words` alone knows: one block, asked for by `new` and given back by the drop. A word is written first
 //! when it, or one behind it, is put, so `new` costs the same for each size. `take` writes all words of its chunk, so a word of a chunk is
-//! read and changed with no test.
+//! read and changed with no test. A loop over many words asks once where they begin (`start`), and so goes through them eight at a time.
 //!
 //! Read `specs/Chunks.antt` first, then `specs/Segment.antt`. `laws` says that chunks never overlap. An owner is a number to the segment,
 //! and what a word means it doesn't know.
@@ -35,4 +35,4 @@ mod order;
 mod segment;
 mod words;
 
-pub use segment::{Addr, HEADER, MOST_WORDS, Moved, Segment};
+pub use segment::{Addr, HEADER, MOST_WORDS, Moved, Segment, Start};

@@ -9,6 +9,7 @@ ghost use Rattle.core_segment.specs.Props.{AreBelow-prop, IsLaid-prop};
 
 use crate::heads::{FEWEST, owner_at, size_at};
 use crate::lists::{Lists, Spot};
+use crate::memory::Base;
 use crate::order::{first_free, rise, thread};
 use crate::words::Words;
 use std::alloc::{AllocError, Global};
@@ -32,6 +33,12 @@ pub struct Moved {
     pub to: Addr,
 }
 
+/// Where the words of a segment begin. A loop over many of them asks for it once, and then need not look for each.
+#[derive(Clone, Copy)]
+pub struct Start {
+    base: Base,
+}
+
 /// A region of words, of which parts are given out as chunks.
 #[derive(Drop)]
 pub struct Segment {
@@ -52,7 +59,7 @@ impl Segment {
     ghost use Rattle.core_segment.specs.Chunks.{no_chunk, with_chunk, with_word};
     ghost use Rattle.core_segment.specs.Heads.{owner_in, size_in};
     ghost use Rattle.core_segment.specs.Taking.{IsSpot};
-    ghost use Rattle.core_segment.specs.Segment.{chunk_at, size_of, free_of, largest_of, work_of, SameRoom, IsTaken, IsJoined, IsMove};
+    ghost use Rattle.core_segment.specs.Segment.{chunk_at, size_of, free_of, largest_of, work_of, SameRoom, IsStart, IsTaken, IsJoined, IsMove};
 
     /// A segment of so many words, all of them free.
     pub fn new(alloc: Global, words: u32) -> Result<Segment, AllocError>
@@ -145,6 +152,40 @@ impl Segment {
         ensures room { SameRoom self.old self.new }
     {
         self.region.put_written(at.place + HEADER + i, w);
+    }
+
+    /// Where its words begin.
+    #[inline(always)]
+    pub fn start(&self) -> Start
+        ensures { IsStart self.now result }
+    {
+        Start {
+            base: self.region.base(),
+        }
+    }
+
+    /// A word of a chunk, by where the words begin.
+    #[inline(always)]
+    pub fn word_from(&self, start: Start, at: Addr, i: usize) -> u16
+        requires start { IsStart self.now start }
+        requires there { i < length (chunk_at self.now at.place).words }
+        ensures { slice_get (chunk_at self.now at.place).words i ≡ Some result }
+    {
+        self.region
+            .get_from(start.base, (at.place + HEADER) as usize + i)
+    }
+
+    /// Changes a word of a chunk, by where the words begin, which stays the same.
+    #[inline(always)]
+    pub fn set_word_from(&mut self, start: Start, at: Addr, i: usize, w: u16)
+        requires start { IsStart self.old start }
+        requires there { i < length (chunk_at self.old at.place).words }
+        ensures chunks { chunk_at self.new ≡ with_word (chunk_at self.old) at.place i w }
+        ensures room { SameRoom self.old self.new }
+        ensures start { IsStart self.new start }
+    {
+        self.region
+            .put_from(start.base, (at.place + HEADER) as usize + i, w);
     }
 
     /// Gives a chunk of so many words, four of them the segment's own, to an owner. None exactly where no free chunk has so many. They

@@ -78,6 +78,24 @@ impl Words {
         *self.cells.get(self.base, i as usize)
     }
 
+    // Where they begin. It stays the same, so a loop may ask once.
+    #[inline(always)]
+    pub(crate) fn base(&self) -> Base
+        ensures { result.ptr ≡ self.now.base.ptr }
+    {
+        self.base
+    }
+
+    // One that was written, with no test, by where they begin.
+    #[inline(always)]
+    pub(crate) fn get_from(&self, base: Base, i: usize) -> u16
+        requires base { base.ptr ≡ self.now.base.ptr }
+        requires written { i < filled_of self.now }
+        ensures { result ≡ word_at (words_of self.now) i }
+    {
+        *self.cells.get(base, i)
+    }
+
     // Writes the words up to one that weren't written.
     #[cold]
     #[inline(never)]
@@ -127,6 +145,18 @@ impl Words {
     {
         let base = self.base;
         self.cells.put(base, i as usize, w);
+    }
+
+    // Changes one that was written, with no test, by where they begin.
+    #[inline(always)]
+    pub(crate) fn put_from(&mut self, base: Base, i: usize, w: u16)
+        requires base { base.ptr ≡ self.old.base.ptr }
+        requires written { i < filled_of self.old }
+        ensures words { words_of self.new ≡ slice_set (words_of self.old) i w }
+        ensures filled { filled_of self.new ≡ filled_of self.old }
+        ensures base { self.new.base.ptr ≡ self.old.base.ptr }
+    {
+        self.cells.put(base, i, w);
     }
 
     // Moves so many words down that were written, the first one first, since the places may overlap.

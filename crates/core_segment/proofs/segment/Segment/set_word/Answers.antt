@@ -1,5 +1,5 @@
 use Rattle.core_segment.specs.Words.{filled_of, words_of}
-use Rattle.std.proofs.Common.{ℕ, ◌+◌, ◌<◌, List, ◌∷◌, ◌++◌, length, refl, sym, ap, subst, ◌∙◌, arith}
+use Rattle.std.proofs.Common.{ℕ, ◌+◌, List, length, refl, sym, ap, subst, ◌∙◌, arith}
 use Rattle.std.proofs.Math.ListN.{length-set}
 use Rattle.std.proofs.Math.Path.{fun_ext}
 use Rattle.std.specs.List.{slice_set}
@@ -9,23 +9,9 @@ use Rattle.core_segment.specs.Order.{IsGoingOn}
 use Rattle.core_segment.specs.Segment.{chunks_of, chunk_at, size_of, free_of, largest_of}
 use Rattle.core_segment.proofs.OrderLaws.{going-same}
 use Rattle.core_segment.proofs.PlaceLaws.{chunk}
-use Rattle.core_segment.proofs.ToldLaws.{IsTold, IsWritten, told, owned, written}
+use Rattle.core_segment.proofs.ToldLaws.{owned, writes-to, writes}
 use Rattle.core_segment.proofs.FilledLaws.{below-word}
 use Rattle.core_segment.proofs.segment.Segment.set_word.Goals as goal
-
--- the chunk of which a word is written
-writes-to : (region firsts : List ℕ) (ts : List Tile) (free p i : ℕ) → IsLaid region firsts ts free → i < length (chunk region ts p).words → IsTold region ts p
-writes-to region firsts ts free p i laid low = told region firsts ts free p laid (owned region ts p (omega arith))
-
-writes : (region firsts : List ℕ) (ts : List Tile) (free p i w : ℕ) → IsLaid region firsts ts free → i < length (chunk region ts p).words
-    → IsWritten region firsts ts free p i w
-writes region firsts ts free p i w laid low =
-    let t = writes-to region firsts ts free p i laid low in
-    let s = subst (λ (us : List Tile). IsLaid region firsts us free) t.split laid in
-    let words = t.words in
-    subst (λ (us : List Tile). IsWritten region firsts us free p i w) (sym t.split)
-    (subst (λ (z : ℕ). IsWritten region firsts (t.before ++ t.tile ∷ t.after) free z i w) t.place
-    (written region firsts free i w t.before t.tile t.after t.own s (omega arith)))
 
 pub overflow_add-at : goal.overflow_add-at
 unfolding chunk_at chunks_of

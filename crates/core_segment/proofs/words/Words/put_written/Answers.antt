@@ -1,12 +1,8 @@
-use Rattle.std.proofs.Common.{◌≡◌, ◌<◌, ℕ, List, length, slice_set, sym, ◌∙◌, ap, arith}
+use Rattle.std.proofs.Common.{ℕ, List, length, sym, ◌∙◌, ap, arith}
 use Rattle.std.proofs.Math.ListN.{length-set}
 use Rattle.core_segment.specs.Memory.{with_zeros}
-use Rattle.core_segment.proofs.ZeroLaws.{zeros-set}
+use Rattle.core_segment.proofs.ZeroLaws.{changed}
 use Rattle.core_segment.proofs.words.Words.put_written.Goals as goal
-
--- a word that was written is another one
-changed : (ws new : List ℕ) (n m i w : ℕ) → i < length ws → new ≡ slice_set ws i w → m ≡ n → with_zeros new m ≡ slice_set (with_zeros ws n) i w
-changed ws new n m i w low e f = ap (λ (l : List ℕ). with_zeros l m) e ∙ ap (λ (k : ℕ). with_zeros (slice_set ws i w) k) f ∙ zeros-set ws n i w low
 
 pub invariant_of-self : goal.invariant_of-self
 invariant_of-self c =
