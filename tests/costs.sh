@@ -85,20 +85,32 @@ words() { printf '%s 30 words' "$1"; printf " $3%.0s" $(seq "$2"); echo; }
 # The dictionary's two selectors stand where their indexes, modulo 4, say: 72 / 2 is 0 and 76 / 2 is 2.
 sed -e 's/^68 .*/68 16 pointers 2i 70 72 2 76 2/' switches.lines >switches.new
 { cat switches.new; echo '70 16 pointers 74 2 78 2'; } | image switches
-# A form of 640 by 480 that is filled by a rule, without a source or from another form.
-for kind in fills copies; do
+# A blit into a form of 640 by 480: the image's name, the source (84 is the form itself, 88 another one, 2 none), the halftone (92, or 2 for
+# none), and the fields from the rule to the place in the source.
+blit() {
     { known 8 16; echo '8 16 pointers 2 60'; process '129i 72 code 10 d0 87 a3 fb' 5i 1i "2 80 $nils"
         printf '16 16 pointers 2 68 -4096i\n68 16 pointers 1i 70 72\n70 16 pointers 74\n72 14 bytes 63 6f 70 79 42 69 74 73\n74 34 method -4094i 96i 2 code 78\n'
         words 82 19200 f0f0
         echo '84 16 pointers 82 640i 480i 2'
-        if [ $kind = fills ]; then
-            echo '80 16 pointers 84 2 2 10i 0i 0i 640i 480i 0i 0i 0i 0i 640i 480i'
-        else
+        if [ $2 = 88 ]; then
             words 86 19200 3333
             echo '88 16 pointers 86 640i 480i 2'
-            echo '80 16 pointers 84 88 2 6i 3i 0i 600i 480i 8i 0i 0i 0i 640i 480i'
-        fi; } | image $kind
-done
+        fi
+        if [ $3 = 92 ]; then
+            words 90 16 5a3c
+            echo '92 16 pointers 90 16i 16i 2'
+        fi
+        echo "80 16 pointers 84 $2 $3 $4 0i 0i 640i 480i"; } | image $1
+}
+blit fills 2 2 '10i 0i 0i 640i 480i 0i 0i'
+blit tones 2 92 '3i 0i 0i 640i 480i 0i 0i'
+blit copies 88 2 '6i 3i 0i 600i 480i 8i 0i'
+blit mixes 88 92 '7i 5i 0i 600i 480i 0i 0i'
+blit moves 84 2 '3i 3i 1i 600i 479i 8i 0i'
+blit scrolls 84 2 '3i 0i 0i 640i 464i 0i 16i'
+blit glyphs 88 2 '7i 5i 9i 16i 16i 0i 0i'
+blit squares 2 2 '12i 16i 16i 16i 16i 0i 0i'
+blit spots 2 92 '3i 5i 9i 16i 16i 0i 0i'
 # A send whose row is cached, and a store into a variable of its class.
 { known 8 16; echo '8 16 pointers 2 60'; understands '-12288i code 78'; process '129i 72 code 76 63 10 d0 87 a3 f9' 5i 1i "16 2 $nils"; } | image path
 # A chain of so many objects behind the base image.
@@ -107,7 +119,7 @@ chain() {
         awk -v n="$1" 'BEGIN { for (i = 0; i < n; i++) print 100 + 2 * i, 16, "pointers", i + 1 < n ? 102 + 2 * i : 2 }'; } | image "$2"
 }
 
-for name in base arithmetic answers sends blocks elements stores switches fills copies path; do
+for name in base arithmetic answers sends blocks elements stores switches fills tones copies mixes moves scrolls glyphs squares spots path; do
     [ -s $name.loom ] || exit 1
 done
 
@@ -154,7 +166,7 @@ loops() {
         cells=
         count=
         for size in "$small" "$middle" "$large"; do
-            case $name:$size in fills:4096*|copies:4096*) cells="$cells -;" count="$count -;"; continue ;; esac
+            case $name:$size in fills:4096*|tones:4096*|copies:4096*|mixes:4096*|moves:4096*|scrolls:4096*|glyphs:4096*|squares:4096*|spots:4096*) cells="$cells -;" count="$count -;"; continue ;; esac
             cells="$cells $(difference instructions "$loom" $name.loom $few $many $size | awk '{ printf "%d", $1 }');"
             count="$count $(difference calls "$loom" $name.loom $few $many $size | awk '{ printf "%.2f", 1000 * $1 }');"
         done
@@ -171,7 +183,14 @@ elements 5 100000 400000
 stores 6 100000 400000
 switches 8 100000 400000
 fills 4 400 800
+tones 4 400 800
 copies 4 400 800
+mixes 4 400 800
+moves 4 400 800
+scrolls 4 400 800
+glyphs 4 4000 8000
+squares 4 4000 8000
+spots 4 4000 8000
 END
 }
 
