@@ -14,6 +14,7 @@ use crate::asked::read_asked;
 use crate::copy::copy_pixels;
 use crate::optional::read_optional_form;
 use blue_model::indexes::{BITBLT_SIZE, DEST_FORM_INDEX, HALFTONE_FORM_INDEX, SOURCE_FORM_INDEX};
+use blue_model::primitives::PRIMITIVE_COPY_BITS;
 use contexts::peeks::peek_field;
 use contexts::{Answer, Cpu, Stop, stack};
 use forms::read_form;
@@ -62,7 +63,7 @@ pub fn run<M: ObjectMemory>(m: &mut M, cpu: &mut Cpu, index: u8) -> Result<Answe
     ensures fit { StaysFit M.ObjectMemory m.old m.new result }
 {
     match (index, cpu.args) {
-        (96, 0) => copy_bits(m, cpu),
+        (PRIMITIVE_COPY_BITS, 0) => copy_bits(m, cpu),
         _ => Ok(Answer::Failed),
     }
 }

@@ -13,6 +13,7 @@ use Rattle.long_names.specs.Names.{POINT}
 use Rattle.long_names.specs.Objects.{OfPointers, int_of}
 use Rattle.blue_model.specs.declared.answer.Answer.{Answer}
 use Rattle.blue_model.specs.declared.indexes.TheConstants.{X_INDEX, Y_INDEX, POINT_SIZE}
+use Rattle.blue_model.specs.declared.primitives.TheConstants.{PRIMITIVE_ADD, PRIMITIVE_SUBTRACT, PRIMITIVE_LESS_THAN, PRIMITIVE_GREATER_THAN, PRIMITIVE_LESS_OR_EQUAL, PRIMITIVE_GREATER_OR_EQUAL, PRIMITIVE_EQUAL, PRIMITIVE_NOT_EQUAL, PRIMITIVE_MULTIPLY, PRIMITIVE_DIVIDE, PRIMITIVE_MOD, PRIMITIVE_DIV, PRIMITIVE_QUO, PRIMITIVE_BIT_AND, PRIMITIVE_BIT_OR, PRIMITIVE_BIT_XOR, PRIMITIVE_BIT_SHIFT, PRIMITIVE_MAKE_POINT}
 use Rattle.blue_model.specs.Machine.{Rule, ◌>>=◌, ◌>>◌, done, known, make}
 use Rattle.blue_model.specs.Contexts.{stated, store_field, stack}
 use Rattle.blue_model.specs.Trials.{where_some, answer, boolean, Primitive}
@@ -121,22 +122,22 @@ of_one index rule = record { index = index; arguments = 1; rule = rule }
 
 unfoldable pub integer_primitives : List Primitive
 integer_primitives =
-    of_one 1 (arithmetic sum)
-    ∷ of_one 2 (arithmetic difference)
-    ∷ of_one 3 (comparison is_less)
-    ∷ of_one 4 (comparison is_greater)
-    ∷ of_one 5 (comparison is_at_most)
-    ∷ of_one 6 (comparison is_at_least)
-    ∷ of_one 7 (comparison is_equal)
-    ∷ of_one 8 (comparison is_unequal)
-    ∷ of_one 9 (arithmetic product)
-    ∷ of_one 10 (arithmetic (divided exact_quotient))
-    ∷ of_one 11 (arithmetic (divided remainder_down))
-    ∷ of_one 12 (arithmetic (divided quotient_down))
-    ∷ of_one 13 (arithmetic (divided quotient_to_zero))
-    ∷ of_one 14 (arithmetic bits_and)
-    ∷ of_one 15 (arithmetic bits_or)
-    ∷ of_one 16 (arithmetic bits_xor)
-    ∷ of_one 17 (arithmetic shifted)
-    ∷ of_one 18 point
+    of_one PRIMITIVE_ADD (arithmetic sum)
+    ∷ of_one PRIMITIVE_SUBTRACT (arithmetic difference)
+    ∷ of_one PRIMITIVE_LESS_THAN (comparison is_less)
+    ∷ of_one PRIMITIVE_GREATER_THAN (comparison is_greater)
+    ∷ of_one PRIMITIVE_LESS_OR_EQUAL (comparison is_at_most)
+    ∷ of_one PRIMITIVE_GREATER_OR_EQUAL (comparison is_at_least)
+    ∷ of_one PRIMITIVE_EQUAL (comparison is_equal)
+    ∷ of_one PRIMITIVE_NOT_EQUAL (comparison is_unequal)
+    ∷ of_one PRIMITIVE_MULTIPLY (arithmetic product)
+    ∷ of_one PRIMITIVE_DIVIDE (arithmetic (divided exact_quotient))
+    ∷ of_one PRIMITIVE_MOD (arithmetic (divided remainder_down))
+    ∷ of_one PRIMITIVE_DIV (arithmetic (divided quotient_down))
+    ∷ of_one PRIMITIVE_QUO (arithmetic (divided quotient_to_zero))
+    ∷ of_one PRIMITIVE_BIT_AND (arithmetic bits_and)
+    ∷ of_one PRIMITIVE_BIT_OR (arithmetic bits_or)
+    ∷ of_one PRIMITIVE_BIT_XOR (arithmetic bits_xor)
+    ∷ of_one PRIMITIVE_BIT_SHIFT (arithmetic shifted)
+    ∷ of_one PRIMITIVE_MAKE_POINT point
     ∷ []

@@ -13,6 +13,7 @@ use Rattle.blue_model.specs.declared.answer.Answer.TheVariants.{Done}
 use Rattle.blue_model.specs.declared.cause.Cause.TheVariants.{Shape}
 use Rattle.blue_model.specs.declared.indexes.TheConstants.{BITBLT_SIZE, DEST_FORM_INDEX, SOURCE_FORM_INDEX, HALFTONE_FORM_INDEX, COMBINATION_RULE_INDEX, DEST_X_INDEX, DEST_Y_INDEX, BLIT_WIDTH_INDEX, BLIT_HEIGHT_INDEX, SOURCE_X_INDEX, SOURCE_Y_INDEX, CLIP_X_INDEX, CLIP_Y_INDEX, CLIP_WIDTH_INDEX, CLIP_HEIGHT_INDEX}
 use Rattle.blue_model.specs.declared.limits.TheConstants.{COMBINATION_RULES}
+use Rattle.blue_model.specs.declared.primitives.TheConstants.{PRIMITIVE_COPY_BITS}
 use Rattle.blue_model.specs.Machine.{Rule, ◌>>=◌, ◌>>◌, done, pick, changed, part}
 use Rattle.blue_model.specs.Parts.{is_nil, field, number}
 use Rattle.blue_model.specs.Contexts.{stack}
@@ -196,4 +197,4 @@ copy_bits = do
       copy q dest source tone >> done Done
 
 unfoldable pub blit_primitives : List Primitive
-blit_primitives = row 96 0 copy_bits ∷ []
+blit_primitives = row PRIMITIVE_COPY_BITS 0 copy_bits ∷ []

@@ -11,6 +11,7 @@ use Rattle.blue_model.specs.declared.event.Line.{Line}
 use Rattle.blue_model.specs.declared.step.Step.{Step}
 use Rattle.blue_model.specs.declared.step.Step.TheVariants.{Next}
 use Rattle.blue_model.specs.declared.indexes.TheConstants.{VALUE_INDEX, ASSOCIATION_SIZE, SENDER_INDEX, TEMP_FRAME_START}
+use Rattle.blue_model.specs.declared.primitives.TheConstants.{PRIMITIVE_ADD, PRIMITIVE_SUBTRACT, PRIMITIVE_LESS_THAN, PRIMITIVE_GREATER_THAN, PRIMITIVE_LESS_OR_EQUAL, PRIMITIVE_GREATER_OR_EQUAL, PRIMITIVE_EQUAL, PRIMITIVE_NOT_EQUAL, PRIMITIVE_MULTIPLY, PRIMITIVE_DIVIDE, PRIMITIVE_MOD, PRIMITIVE_MAKE_POINT, PRIMITIVE_BIT_SHIFT, PRIMITIVE_DIV, PRIMITIVE_BIT_AND, PRIMITIVE_BIT_OR, PRIMITIVE_EQUIVALENT, PRIMITIVE_CLASS, PRIMITIVE_BLOCK_COPY, PRIMITIVE_VALUE, SPECIAL_AT, SPECIAL_EQUIVALENT, SPECIAL_CLASS, SPECIAL_BLOCK_COPY, SPECIAL_VALUE, SPECIAL_VALUE_WITH_ARGUMENT, SPECIAL_DO}
 use Rattle.blue_model.specs.Machine.{Rule, ◌>>=◌, ◌>>◌, done, halt, given, pick, register, part, known, class_of}
 use Rattle.blue_model.specs.Parts.{size, field, literal}
 use Rattle.blue_model.specs.Contexts.{store_field, push, stack, pop, pop_top, fetch, jump}
@@ -201,7 +202,9 @@ tried_for events index n s = do
 
 -- + - < > <= >= = ~= * / \\ @ bitShift: // bitAnd: bitOr:
 abbrev pub arithmetic_primitives : List ℕ
-arithmetic_primitives = 1 ∷ 2 ∷ 3 ∷ 4 ∷ 5 ∷ 6 ∷ 7 ∷ 8 ∷ 9 ∷ 10 ∷ 11 ∷ 18 ∷ 17 ∷ 12 ∷ 14 ∷ 15 ∷ []
+arithmetic_primitives =
+    PRIMITIVE_ADD ∷ PRIMITIVE_SUBTRACT ∷ PRIMITIVE_LESS_THAN ∷ PRIMITIVE_GREATER_THAN ∷ PRIMITIVE_LESS_OR_EQUAL ∷ PRIMITIVE_GREATER_OR_EQUAL ∷ PRIMITIVE_EQUAL ∷ PRIMITIVE_NOT_EQUAL
+    ∷ PRIMITIVE_MULTIPLY ∷ PRIMITIVE_DIVIDE ∷ PRIMITIVE_MOD ∷ PRIMITIVE_MAKE_POINT ∷ PRIMITIVE_BIT_SHIFT ∷ PRIMITIVE_DIV ∷ PRIMITIVE_BIT_AND ∷ PRIMITIVE_BIT_OR ∷ []
 
 -- of two numbers
 unfoldable pub arithmetic_send : List Line → ℕ → Rule Step
@@ -285,13 +288,13 @@ bytecodes events =
     ∷ from_to 168 171 (long_jump_on events TRUE FALSE)  -- longConditionalJump: where true
     ∷ from_to 172 175 (long_jump_on events FALSE TRUE)  -- longConditionalJump: where false
     ∷ from_to 176 191 (arithmetic_send events)  -- arithmeticSelectorPrimitive
-    ∷ from_to 192 197 (λ i. special_send events (16 + i))  -- sendSpecialSelectorBytecode: at: at:put: size next nextPut: atEnd
-    ∷ only 198 (tried_for events 110 1 22)  -- commonSelectorPrimitive: ==
-    ∷ only 199 (tried_for events 111 0 23)  -- commonSelectorPrimitive: class
-    ∷ only 200 (block_send events 80 1 is_context_class 24)  -- commonSelectorPrimitive: blockCopy:
-    ∷ only 201 (block_send events 81 0 is_block_class 25)  -- commonSelectorPrimitive: value
-    ∷ only 202 (block_send events 81 1 is_block_class 26)  -- commonSelectorPrimitive: value:
-    ∷ from_to 203 207 (λ i. special_send events (27 + i))  -- sendSpecialSelectorBytecode: do: new new: x y
+    ∷ from_to 192 197 (λ i. special_send events (SPECIAL_AT + i))  -- sendSpecialSelectorBytecode: at: at:put: size next nextPut: atEnd
+    ∷ only 198 (tried_for events PRIMITIVE_EQUIVALENT 1 SPECIAL_EQUIVALENT)  -- commonSelectorPrimitive: ==
+    ∷ only 199 (tried_for events PRIMITIVE_CLASS 0 SPECIAL_CLASS)  -- commonSelectorPrimitive: class
+    ∷ only 200 (block_send events PRIMITIVE_BLOCK_COPY 1 is_context_class SPECIAL_BLOCK_COPY)  -- commonSelectorPrimitive: blockCopy:
+    ∷ only 201 (block_send events PRIMITIVE_VALUE 0 is_block_class SPECIAL_VALUE)  -- commonSelectorPrimitive: value
+    ∷ only 202 (block_send events PRIMITIVE_VALUE 1 is_block_class SPECIAL_VALUE_WITH_ARGUMENT)  -- commonSelectorPrimitive: value:
+    ∷ from_to 203 207 (λ i. special_send events (SPECIAL_DO + i))  -- sendSpecialSelectorBytecode: do: new new: x y
     ∷ from_to 208 223 (λ i. send_literal events i 0)  -- sendLiteralSelectorBytecode: without arguments
     ∷ from_to 224 239 (λ i. send_literal events i 1)  -- sendLiteralSelectorBytecode: with one
     ∷ from_to 240 255 (λ i. send_literal events i 2)  -- sendLiteralSelectorBytecode: with two

@@ -13,6 +13,7 @@ use Rattle.blue_model.specs.declared.answer.Answer.TheVariants.{Done, Execute, Q
 use Rattle.blue_model.specs.declared.cause.Cause.TheVariants.{Pointer, Shape}
 use Rattle.blue_model.specs.declared.indexes.TheConstants.{INSTRUCTION_POINTER_INDEX, STACK_POINTER_INDEX, CALLER_INDEX, BLOCK_ARGUMENT_COUNT_INDEX, INITIAL_IP_INDEX, HOME_INDEX, TEMP_FRAME_START}
 use Rattle.blue_model.specs.declared.limits.TheConstants.{FULL_STACK, MOST_ARGUMENTS}
+use Rattle.blue_model.specs.declared.primitives.TheConstants.{PRIMITIVE_BLOCK_COPY, PRIMITIVE_VALUE, PRIMITIVE_VALUE_WITH_ARGUMENTS, PRIMITIVE_PERFORM, PRIMITIVE_PERFORM_WITH_ARGUMENTS, PRIMITIVE_FLUSH_CACHE, PRIMITIVE_QUIT}
 use Rattle.blue_model.specs.Machine.{Rule, ◌>>=◌, ◌>>◌, done, given, pick, each, register, put_register, numbers, part, known, class_of, make}
 use Rattle.blue_model.specs.Parts.{size, field, number, home_of}
 use Rattle.blue_model.specs.Contexts.{store_field, push, stack, pop, stated, enter}
@@ -202,13 +203,13 @@ quit = done Quit
 
 unfoldable pub control_primitives : List Primitive
 control_primitives =
-    row 80 1 block_copy
-    ∷ row 82 1 value_with_arguments
-    ∷ row 84 2 perform_with_arguments
-    ∷ row 89 0 flush_cache
-    ∷ row 113 0 quit
+    row PRIMITIVE_BLOCK_COPY 1 block_copy
+    ∷ row PRIMITIVE_VALUE_WITH_ARGUMENTS 1 value_with_arguments
+    ∷ row PRIMITIVE_PERFORM_WITH_ARGUMENTS 2 perform_with_arguments
+    ∷ row PRIMITIVE_FLUSH_CACHE 0 flush_cache
+    ∷ row PRIMITIVE_QUIT 0 quit
     ∷ []
 
 -- value and perform: are for messages of any number of arguments
 unfoldable pub control_primitive : ℕ → Rule Answer
-control_primitive index = pick (index == 81) value (pick (index == 83) perform (primitive_in control_primitives index))
+control_primitive index = pick (index == PRIMITIVE_VALUE) value (pick (index == PRIMITIVE_PERFORM) perform (primitive_in control_primitives index))

@@ -17,6 +17,7 @@ use Rattle.blue_model.specs.declared.event.Event.TheVariants.{Word, Purge, Compa
 use Rattle.blue_model.specs.declared.event.Line.{Line}
 use Rattle.blue_model.specs.declared.indexes.TheConstants.{SEMAPHORE_SIZE}
 use Rattle.blue_model.specs.declared.limits.TheConstants.{GREATEST_COUNT}
+use Rattle.blue_model.specs.declared.primitives.TheConstants.{PRIMITIVE_INPUT_SEMAPHORE, PRIMITIVE_INPUT_WORD, PRIMITIVE_SNAPSHOT, PRIMITIVE_TIME_WORDS_INTO, PRIMITIVE_SIGNAL_AT_TICK, PRIMITIVE_BE_DISPLAY, PRIMITIVE_SAY_STRING}
 use Rattle.blue_model.specs.Machine.{Rule, ◌>>=◌, ◌>>◌, done, given, pick, register, put_register, numbers, set_numbers, part, class_of, store_byte, say}
 use Rattle.blue_model.specs.Parts.{is_nil, size}
 use Rattle.blue_model.specs.Contexts.{stack, pop}
@@ -177,13 +178,13 @@ say_string = do
 
 unfoldable pub device_primitives : List Line → List Primitive
 device_primitives events =
-    row 93 1 input_semaphore
-    ∷ row 95 0 (input_word events)
-    ∷ row 97 0 keep_machine
-    ∷ row 99 1 tick_words
-    ∷ row 100 2 signal_at_tick
-    ∷ row 102 0 be_display
-    ∷ row 128 1 say_string
+    row PRIMITIVE_INPUT_SEMAPHORE 1 input_semaphore
+    ∷ row PRIMITIVE_INPUT_WORD 0 (input_word events)
+    ∷ row PRIMITIVE_SNAPSHOT 0 keep_machine
+    ∷ row PRIMITIVE_TIME_WORDS_INTO 1 tick_words
+    ∷ row PRIMITIVE_SIGNAL_AT_TICK 2 signal_at_tick
+    ∷ row PRIMITIVE_BE_DISPLAY 0 be_display
+    ∷ row PRIMITIVE_SAY_STRING 1 say_string
     ∷ []
 
 -- ---- events and the timer, before a bytecode

@@ -14,6 +14,7 @@ use Rattle.long_names.specs.Objects.{OfBytes, int_of, text_of}
 use Rattle.long_names.specs.Heap.{Heap}
 use Rattle.blue_model.specs.declared.answer.Answer.{Answer}
 use Rattle.blue_model.specs.declared.limits.TheConstants.{LARGE_BYTES, LARGE_BITS}
+use Rattle.blue_model.specs.declared.primitives.TheConstants.{PRIMITIVE_LARGE_ADD, PRIMITIVE_LARGE_SUBTRACT, PRIMITIVE_LARGE_LESS_THAN, PRIMITIVE_LARGE_GREATER_THAN, PRIMITIVE_LARGE_LESS_OR_EQUAL, PRIMITIVE_LARGE_GREATER_OR_EQUAL, PRIMITIVE_LARGE_EQUAL, PRIMITIVE_LARGE_NOT_EQUAL, PRIMITIVE_LARGE_MULTIPLY, PRIMITIVE_LARGE_DIVIDE, PRIMITIVE_LARGE_MOD, PRIMITIVE_LARGE_DIV, PRIMITIVE_LARGE_QUO, PRIMITIVE_LARGE_BIT_AND, PRIMITIVE_LARGE_BIT_OR, PRIMITIVE_LARGE_BIT_XOR, PRIMITIVE_LARGE_BIT_SHIFT}
 use Rattle.blue_model.specs.Machine.{Rule, ◌>>=◌, ◌>>◌, done, pick, known, make, store_byte, each}
 use Rattle.blue_model.specs.Contexts.{stated, stack}
 use Rattle.blue_model.specs.Trials.{where_some, ◌>>?◌, peek, answer, boolean, Primitive}
@@ -136,21 +137,21 @@ large_shift = of_shift (λ a b. answer_result (large_result shifted a b))
 
 unfoldable pub large_primitives : List Primitive
 large_primitives =
-    of_one 21 (large_arithmetic sum)
-    ∷ of_one 22 (large_arithmetic difference)
-    ∷ of_one 23 (large_comparison is_less)
-    ∷ of_one 24 (large_comparison is_greater)
-    ∷ of_one 25 (large_comparison is_at_most)
-    ∷ of_one 26 (large_comparison is_at_least)
-    ∷ of_one 27 (large_comparison is_equal)
-    ∷ of_one 28 (large_comparison is_unequal)
-    ∷ of_one 29 (large_arithmetic product)
-    ∷ of_one 30 (large_arithmetic (divided exact_quotient))
-    ∷ of_one 31 (large_arithmetic (divided remainder_down))
-    ∷ of_one 32 (large_arithmetic (divided quotient_down))
-    ∷ of_one 33 (large_arithmetic (divided quotient_to_zero))
-    ∷ of_one 34 (large_arithmetic large_and)
-    ∷ of_one 35 (large_arithmetic large_or)
-    ∷ of_one 36 (large_arithmetic large_xor)
-    ∷ of_one 37 large_shift
+    of_one PRIMITIVE_LARGE_ADD (large_arithmetic sum)
+    ∷ of_one PRIMITIVE_LARGE_SUBTRACT (large_arithmetic difference)
+    ∷ of_one PRIMITIVE_LARGE_LESS_THAN (large_comparison is_less)
+    ∷ of_one PRIMITIVE_LARGE_GREATER_THAN (large_comparison is_greater)
+    ∷ of_one PRIMITIVE_LARGE_LESS_OR_EQUAL (large_comparison is_at_most)
+    ∷ of_one PRIMITIVE_LARGE_GREATER_OR_EQUAL (large_comparison is_at_least)
+    ∷ of_one PRIMITIVE_LARGE_EQUAL (large_comparison is_equal)
+    ∷ of_one PRIMITIVE_LARGE_NOT_EQUAL (large_comparison is_unequal)
+    ∷ of_one PRIMITIVE_LARGE_MULTIPLY (large_arithmetic product)
+    ∷ of_one PRIMITIVE_LARGE_DIVIDE (large_arithmetic (divided exact_quotient))
+    ∷ of_one PRIMITIVE_LARGE_MOD (large_arithmetic (divided remainder_down))
+    ∷ of_one PRIMITIVE_LARGE_DIV (large_arithmetic (divided quotient_down))
+    ∷ of_one PRIMITIVE_LARGE_QUO (large_arithmetic (divided quotient_to_zero))
+    ∷ of_one PRIMITIVE_LARGE_BIT_AND (large_arithmetic large_and)
+    ∷ of_one PRIMITIVE_LARGE_BIT_OR (large_arithmetic large_or)
+    ∷ of_one PRIMITIVE_LARGE_BIT_XOR (large_arithmetic large_xor)
+    ∷ of_one PRIMITIVE_LARGE_BIT_SHIFT large_shift
     ∷ []

@@ -5,6 +5,7 @@ use Rattle.blue_model.specs.declared.answer.Answer.TheVariants.{Done, Failed, Ex
 use Rattle.blue_model.specs.declared.step.Step.{Step}
 use Rattle.blue_model.specs.declared.step.Step.TheVariants as step
 use Rattle.blue_model.specs.declared.event.Line.{Line}
+use Rattle.blue_model.specs.declared.primitives.TheConstants.{PRIMITIVE_LARGE_ADD, PRIMITIVE_LARGE_BIT_SHIFT, PRIMITIVE_BLOCK_COPY, PRIMITIVE_PERFORM, PRIMITIVE_PERFORM_WITH_ARGUMENTS, PRIMITIVE_SIGNAL, PRIMITIVE_SUSPEND, PRIMITIVE_FLUSH_CACHE, PRIMITIVE_INPUT_SEMAPHORE, PRIMITIVE_COPY_BITS, PRIMITIVE_BE_DISPLAY, PRIMITIVE_QUIT, PRIMITIVE_SAY_STRING}
 use Rattle.blue_model.specs.Machine.{Rule, ◌>>=◌, ◌>>◌, done, pick}
 use Rattle.blue_model.specs.Trials.{primitive_in}
 use Rattle.blue_model.specs.Arithmetic.{integer_primitives}
@@ -17,23 +18,23 @@ use Rattle.blue_model.specs.Devices.{device_primitives}
 
 -- blocks, performs, the method cache and the end of the run
 abbrev pub is_control : ℕ → Bool
-is_control index = (nat_le 80 index && nat_le index 84) || (index == 89) || (index == 113)
+is_control index = (nat_le PRIMITIVE_BLOCK_COPY index && nat_le index PRIMITIVE_PERFORM_WITH_ARGUMENTS) || (index == PRIMITIVE_FLUSH_CACHE) || (index == PRIMITIVE_QUIT)
 
 -- arithmetic on large integers
 abbrev pub is_large : ℕ → Bool
-is_large index = nat_le 21 index && nat_le index 37
+is_large index = nat_le PRIMITIVE_LARGE_ADD index && nat_le index PRIMITIVE_LARGE_BIT_SHIFT
 
 -- signal, wait, resume and suspend
 abbrev pub is_process : ℕ → Bool
-is_process index = nat_le 85 index && nat_le index 88
+is_process index = nat_le PRIMITIVE_SIGNAL index && nat_le index PRIMITIVE_SUSPEND
 
 -- BitBlt
 abbrev pub is_blit : ℕ → Bool
-is_blit index = index == 96
+is_blit index = index == PRIMITIVE_COPY_BITS
 
 -- input, the clock, the display and the transcript
 abbrev pub is_device : ℕ → Bool
-is_device index = (nat_le 93 index && nat_le index 102) || (index == 128)
+is_device index = (nat_le PRIMITIVE_INPUT_SEMAPHORE index && nat_le index PRIMITIVE_BE_DISPLAY) || (index == PRIMITIVE_SAY_STRING)
 
 -- dispatchPrimitives, with the event list that input comes from. A primitive that isn't in the table fails
 unfoldable pub primitive : List Line → ℕ → Rule Answer
@@ -46,7 +47,7 @@ primitive events index =
     (primitive_in (integer_primitives ++ object_primitives) index)))))
 
 abbrev pub is_perform : ℕ → Bool
-is_perform index = (index == 83) || (index == 84)
+is_perform index = (index == PRIMITIVE_PERFORM) || (index == PRIMITIVE_PERFORM_WITH_ARGUMENTS)
 
 abbrev pub has_failed : Answer → Bool
 has_failed Done = false

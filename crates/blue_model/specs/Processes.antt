@@ -10,6 +10,7 @@ use Rattle.blue_model.specs.declared.answer.Answer.{Answer}
 use Rattle.blue_model.specs.declared.answer.Answer.TheVariants.{Done}
 use Rattle.blue_model.specs.declared.cause.Cause.TheVariants.{Shape, NoProcess}
 use Rattle.blue_model.specs.declared.indexes.TheConstants.{PROCESS_LISTS_INDEX, ACTIVE_PROCESS_INDEX, FIRST_LINK_INDEX, LAST_LINK_INDEX, EXCESS_SIGNALS_INDEX, SEMAPHORE_SIZE, NEXT_LINK_INDEX, SUSPENDED_CONTEXT_INDEX, PRIORITY_INDEX, MY_LIST_INDEX, PROCESS_SIZE, SCHEDULER_SIZE}
+use Rattle.blue_model.specs.declared.primitives.TheConstants.{PRIMITIVE_SIGNAL, PRIMITIVE_WAIT, PRIMITIVE_RESUME, PRIMITIVE_SUSPEND}
 use Rattle.blue_model.specs.Machine.{Rule, ◌>>=◌, ◌>>◌, done, halt, given, pick, register, put_register, numbers, set_numbers, part, known}
 use Rattle.blue_model.specs.Parts.{is_nil, size, field, number}
 use Rattle.blue_model.specs.Contexts.{store_field, stack, enter, scheduler, active_process}
@@ -213,8 +214,8 @@ primitive_suspend = do
 
 unfoldable pub process_primitives : List Primitive
 process_primitives =
-    row 85 0 primitive_signal
-    ∷ row 86 0 primitive_wait
-    ∷ row 87 0 primitive_resume
-    ∷ row 88 0 primitive_suspend
+    row PRIMITIVE_SIGNAL 0 primitive_signal
+    ∷ row PRIMITIVE_WAIT 0 primitive_wait
+    ∷ row PRIMITIVE_RESUME 0 primitive_resume
+    ∷ row PRIMITIVE_SUSPEND 0 primitive_suspend
     ∷ []

@@ -14,6 +14,7 @@ use Rattle.blue_model.specs.declared.answer.Answer.{Answer}
 use Rattle.blue_model.specs.declared.answer.Answer.TheVariants.{Done}
 use Rattle.blue_model.specs.declared.spot.Spot.{Spot}
 use Rattle.blue_model.specs.declared.indexes.TheConstants.{STREAM_ARRAY_INDEX, STREAM_INDEX_INDEX, STREAM_READ_LIMIT_INDEX, STREAM_WRITE_LIMIT_INDEX, STREAM_SIZE}
+use Rattle.blue_model.specs.declared.primitives.TheConstants.{PRIMITIVE_AT, PRIMITIVE_AT_PUT, PRIMITIVE_SIZE, PRIMITIVE_STRING_AT, PRIMITIVE_STRING_AT_PUT, PRIMITIVE_NEXT, PRIMITIVE_NEXT_PUT, PRIMITIVE_AT_END, PRIMITIVE_OBJECT_AT, PRIMITIVE_OBJECT_AT_PUT, PRIMITIVE_NEW, PRIMITIVE_NEW_WITH_ARGUMENT, PRIMITIVE_BECOME, PRIMITIVE_INSTANCE_VARIABLE_AT, PRIMITIVE_INSTANCE_VARIABLE_AT_PUT, PRIMITIVE_AS_OOP, PRIMITIVE_NEW_METHOD, PRIMITIVE_EQUIVALENT, PRIMITIVE_CLASS}
 use Rattle.blue_model.specs.Machine.{Rule, ◌>>=◌, ◌>>◌, done, pick, register, class_of, store, swap, make}
 use Rattle.blue_model.specs.Parts.{size, field, number, literal, heading}
 use Rattle.blue_model.specs.Contexts.{store_field, stack, pop}
@@ -244,23 +245,23 @@ row index arguments rule = record { index = index; arguments = arguments; rule =
 
 unfoldable pub object_primitives : List Primitive
 object_primitives =
-    row 60 1 at
-    ∷ row 61 2 at_put
-    ∷ row 62 0 size_of
-    ∷ row 63 1 string_at
-    ∷ row 64 2 string_at_put
-    ∷ row 65 0 next
-    ∷ row 66 1 next_put
-    ∷ row 67 0 at_end
-    ∷ row 68 1 object_at_index
-    ∷ row 69 2 object_at_put
-    ∷ row 70 0 new
-    ∷ row 71 1 new_with_size
-    ∷ row 72 1 become
-    ∷ row 73 1 instance_variable_at
-    ∷ row 74 2 instance_variable_at_put
-    ∷ row 75 0 hash
-    ∷ row 79 2 new_method
-    ∷ row 110 1 equivalent
-    ∷ row 111 0 class
+    row PRIMITIVE_AT 1 at
+    ∷ row PRIMITIVE_AT_PUT 2 at_put
+    ∷ row PRIMITIVE_SIZE 0 size_of
+    ∷ row PRIMITIVE_STRING_AT 1 string_at
+    ∷ row PRIMITIVE_STRING_AT_PUT 2 string_at_put
+    ∷ row PRIMITIVE_NEXT 0 next
+    ∷ row PRIMITIVE_NEXT_PUT 1 next_put
+    ∷ row PRIMITIVE_AT_END 0 at_end
+    ∷ row PRIMITIVE_OBJECT_AT 1 object_at_index
+    ∷ row PRIMITIVE_OBJECT_AT_PUT 2 object_at_put
+    ∷ row PRIMITIVE_NEW 0 new
+    ∷ row PRIMITIVE_NEW_WITH_ARGUMENT 1 new_with_size
+    ∷ row PRIMITIVE_BECOME 1 become
+    ∷ row PRIMITIVE_INSTANCE_VARIABLE_AT 1 instance_variable_at
+    ∷ row PRIMITIVE_INSTANCE_VARIABLE_AT_PUT 2 instance_variable_at_put
+    ∷ row PRIMITIVE_AS_OOP 0 hash
+    ∷ row PRIMITIVE_NEW_METHOD 2 new_method
+    ∷ row PRIMITIVE_EQUIVALENT 1 equivalent
+    ∷ row PRIMITIVE_CLASS 0 class
     ∷ []

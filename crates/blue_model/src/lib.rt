@@ -32,6 +32,7 @@ pub mod laws;
 pub mod limits;
 pub mod log_laws;
 pub mod pin_laws;
+pub mod primitives;
 mod spot;
 mod step;
 

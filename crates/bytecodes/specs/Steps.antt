@@ -4,12 +4,16 @@ use Rattle.blue_model.specs.declared.answer.Answer.{Answer}
 use Rattle.blue_model.specs.declared.answer.Answer.TheVariants.{Done}
 use Rattle.blue_model.specs.declared.step.Step.{Step}
 use Rattle.blue_model.specs.declared.step.Step.TheVariants.{Next}
+use Rattle.blue_model.specs.declared.primitives.TheConstants.{LAST_PUSH, FIRST_UNUSED, LAST_EXTENDED_STORE, POP_STACK, LAST_SHORT_JUMP, FIRST_LONG_JUMP, LAST_LONG_JUMP}
 use Rattle.blue_model.specs.Machine.{Rule, ◌>>◌, done}
 use Rattle.blue_model.specs.Messages.{activate}
 
 -- a push, a store, a pop, an unconditional jump, or a byte that is unused
 abbrev pub is_plain : ℕ → Bool
-is_plain byte = nat_le byte 119 || ((nat_le 126 byte && nat_le byte 130) || ((nat_le 135 byte && nat_le byte 151) || (nat_le 160 byte && nat_le byte 167)))
+is_plain byte =
+    nat_le byte LAST_PUSH
+    || ((nat_le FIRST_UNUSED byte && nat_le byte LAST_EXTENDED_STORE)
+    || ((nat_le POP_STACK byte && nat_le byte LAST_SHORT_JUMP) || (nat_le FIRST_LONG_JUMP byte && nat_le byte LAST_LONG_JUMP)))
 
 abbrev pub next_by : {E : Type 0} → Result (Unit {0}) E → Result Step E
 next_by (Ok u) = Ok Next

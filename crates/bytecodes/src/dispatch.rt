@@ -26,6 +26,11 @@ use crate::stacks::{
 };
 use crate::variables::Variable;
 use blue_model::Step;
+use blue_model::primitives::{
+    FIRST_LONG_JUMP, FIRST_UNUSED, LAST_EXTENDED_STORE, LAST_LONG_JUMP, LAST_PUSH, LAST_SHORT_JUMP,
+    POP_STACK, PRIMITIVE_CLASS, PRIMITIVE_EQUIVALENT, SPECIAL_AT, SPECIAL_CLASS, SPECIAL_DO,
+    SPECIAL_EQUIVALENT, SPECIAL_VALUE, SPECIAL_VALUE_WITH_ARGUMENT,
+};
 use contexts::{Cause, Cpu, Stop, fetch, pop};
 use event_file::EventList;
 use long_names::Name;
@@ -36,7 +41,10 @@ use object_memory::{ObjectMemory, Reg};
 fn is_plain(byte: u8) -> bool
     ensures { result ≡ steps.is_plain byte }
 {
-    matches!(byte, 0..=119 | 126..=130 | 135..=151 | 160..=167)
+    matches!(
+        byte,
+        0..=LAST_PUSH | FIRST_UNUSED..=LAST_EXTENDED_STORE | POP_STACK..=LAST_SHORT_JUMP | FIRST_LONG_JUMP..=LAST_LONG_JUMP
+    )
 }
 
 /// Does what a byte says that is a push, a store, a pop, an unconditional jump or unused: rows of the table of bytecodes, each with its
@@ -158,19 +166,19 @@ fn bytecode<M: ObjectMemory>(
         // arithmeticSelectorPrimitive
         176..=191 => arithmetic_send(m, cpu, events, u32::from(byte - 176)),
         // sendSpecialSelectorBytecode: at: at:put: size next nextPut: atEnd
-        192..=197 => special_send(m, cpu, events, 16 + u32::from(byte - 192)),
+        192..=197 => special_send(m, cpu, events, SPECIAL_AT + u32::from(byte - 192)),
         // commonSelectorPrimitive: ==
-        198 => tried_for(m, cpu, events, 110, 1, 22),
+        198 => tried_for(m, cpu, events, PRIMITIVE_EQUIVALENT, 1, SPECIAL_EQUIVALENT),
         // commonSelectorPrimitive: class
-        199 => tried_for(m, cpu, events, 111, 0, 23),
+        199 => tried_for(m, cpu, events, PRIMITIVE_CLASS, 0, SPECIAL_CLASS),
         // commonSelectorPrimitive: blockCopy:
         200 => context_send(m, cpu, events),
         // commonSelectorPrimitive: value
-        201 => block_send(m, cpu, events, 0, 25),
+        201 => block_send(m, cpu, events, 0, SPECIAL_VALUE),
         // commonSelectorPrimitive: value:
-        202 => block_send(m, cpu, events, 1, 26),
+        202 => block_send(m, cpu, events, 1, SPECIAL_VALUE_WITH_ARGUMENT),
         // sendSpecialSelectorBytecode: do: new new: x y
-        203..=207 => special_send(m, cpu, events, 27 + u32::from(byte - 203)),
+        203..=207 => special_send(m, cpu, events, SPECIAL_DO + u32::from(byte - 203)),
         // sendLiteralSelectorBytecode: without arguments
         208..=223 => send_literal(m, cpu, events, u32::from(byte - 208), 0),
         // sendLiteralSelectorBytecode: with one

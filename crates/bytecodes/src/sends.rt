@@ -1,6 +1,7 @@
 // Sends (chapter 28, send bytecodes).
 ghost use Rattle.std.specs.Prelude.{◌≡◌, ◌<◌, ◌≤◌, OnOk};
 ghost use Rattle.object_memory.specs.Told.{IsReady};
+ghost use Rattle.blue_model.specs.declared.primitives.TheConstants.{PRIMITIVE_BLOCK_COPY, PRIMITIVE_VALUE, SPECIAL_BLOCK_COPY};
 ghost use Rattle.blue_model.specs.declared.step.Step.TheVariants.{Next};
 ghost use Rattle.blue_model.specs.Sends as model;
 ghost use Rattle.blue_model.specs.Bytecodes as bytecodes;
@@ -15,6 +16,13 @@ use crate::tries::{has_failed, step_of, try_primitive};
 use crate::variables::literal_constant;
 use blue_model::Step;
 use blue_model::indexes::{ASSOCIATION_SIZE, SUPERCLASS_INDEX, VALUE_INDEX};
+use blue_model::primitives::{
+    PRIMITIVE_ADD, PRIMITIVE_BIT_AND, PRIMITIVE_BIT_OR, PRIMITIVE_BIT_SHIFT, PRIMITIVE_BLOCK_COPY,
+    PRIMITIVE_DIV, PRIMITIVE_DIVIDE, PRIMITIVE_EQUAL, PRIMITIVE_GREATER_OR_EQUAL,
+    PRIMITIVE_GREATER_THAN, PRIMITIVE_LESS_OR_EQUAL, PRIMITIVE_LESS_THAN, PRIMITIVE_MAKE_POINT,
+    PRIMITIVE_MOD, PRIMITIVE_MULTIPLY, PRIMITIVE_NOT_EQUAL, PRIMITIVE_SUBTRACT, PRIMITIVE_VALUE,
+    SPECIAL_BLOCK_COPY,
+};
 use contexts::parts::{class_of, field, known, last_literal, number};
 use contexts::{Cause, Cpu, Stop, fetch, peek_stack, push, set_arguments, stack};
 use event_file::EventList;
@@ -262,7 +270,24 @@ pub(crate) fn tried_for<M: ObjectMemory>(
 }
 
 /// The primitives of the arithmetic special selectors, in their order.
-const ARITHMETIC: [u8; 16] = [1, 2, 3, 4, 5, 6, 7, 8, 9, 10, 11, 18, 17, 12, 14, 15];
+const ARITHMETIC: [u8; 16] = [
+    PRIMITIVE_ADD,
+    PRIMITIVE_SUBTRACT,
+    PRIMITIVE_LESS_THAN,
+    PRIMITIVE_GREATER_THAN,
+    PRIMITIVE_LESS_OR_EQUAL,
+    PRIMITIVE_GREATER_OR_EQUAL,
+    PRIMITIVE_EQUAL,
+    PRIMITIVE_NOT_EQUAL,
+    PRIMITIVE_MULTIPLY,
+    PRIMITIVE_DIVIDE,
+    PRIMITIVE_MOD,
+    PRIMITIVE_MAKE_POINT,
+    PRIMITIVE_BIT_SHIFT,
+    PRIMITIVE_DIV,
+    PRIMITIVE_BIT_AND,
+    PRIMITIVE_BIT_OR,
+];
 
 /// The primitive of an arithmetic special selector.
 #[inline(always)]
@@ -303,16 +328,16 @@ pub(crate) fn context_send<M: ObjectMemory>(
     events: &EventList,
 ) -> Result<Step, Stop>
     requires fit { IsFit M.ObjectMemory m.old }
-    ensures serves { Speaks Next (M.told m.old) cpu.old (M.told m.new) cpu.new (bytecodes.block_send events.now 80 1 bytecodes.is_context_class 24) result }
+    ensures serves { Speaks Next (M.told m.old) cpu.old (M.told m.new) cpu.new (bytecodes.block_send events.now PRIMITIVE_BLOCK_COPY 1 bytecodes.is_context_class SPECIAL_BLOCK_COPY) result }
     ensures keeps { StepsBy cpu.old.vault result }
     ensures fit { StaysFit M.ObjectMemory m.old m.new result }
 {
     stack(m, cpu, Reg::R10, 1)?;
     class_of(m, Reg::R10, Reg::R10)?;
     if m.is(Reg::R10, Name::METHOD_CONTEXT) || m.is(Reg::R10, Name::BLOCK_CONTEXT) {
-        return tried_for(m, cpu, events, 80, 1, 24);
+        return tried_for(m, cpu, events, PRIMITIVE_BLOCK_COPY, 1, SPECIAL_BLOCK_COPY);
     }
-    special_send(m, cpu, events, 24)
+    special_send(m, cpu, events, SPECIAL_BLOCK_COPY)
 }
 
 /// Sends value or value:, with n arguments, which is special selector s. To a block its primitive is tried first.
@@ -325,14 +350,14 @@ pub(crate) fn block_send<M: ObjectMemory>(
 ) -> Result<Step, Stop>
     requires fit { IsFit M.ObjectMemory m.old }
     requires number { s < 32 }
-    ensures serves { Speaks Next (M.told m.old) cpu.old (M.told m.new) cpu.new (bytecodes.block_send events.now 81 n bytecodes.is_block_class s) result }
+    ensures serves { Speaks Next (M.told m.old) cpu.old (M.told m.new) cpu.new (bytecodes.block_send events.now PRIMITIVE_VALUE n bytecodes.is_block_class s) result }
     ensures keeps { StepsBy cpu.old.vault result }
     ensures fit { StaysFit M.ObjectMemory m.old m.new result }
 {
     stack(m, cpu, Reg::R10, u32::from(n))?;
     class_of(m, Reg::R10, Reg::R10)?;
     if m.is(Reg::R10, Name::BLOCK_CONTEXT) {
-        return tried_for(m, cpu, events, 81, n, s);
+        return tried_for(m, cpu, events, PRIMITIVE_VALUE, n, s);
     }
     special_send(m, cpu, events, s)
 }

@@ -10,6 +10,12 @@ ghost use Rattle.contexts.specs.Calls.{StaysFit};
 ghost use Rattle.contexts.specs.Keeping.{KeepsBy};
 
 use blue_model::Step;
+use blue_model::primitives::{
+    PRIMITIVE_AT, PRIMITIVE_BE_DISPLAY, PRIMITIVE_BLOCK_COPY, PRIMITIVE_COPY_BITS,
+    PRIMITIVE_FLUSH_CACHE, PRIMITIVE_INPUT_SEMAPHORE, PRIMITIVE_LARGE_ADD,
+    PRIMITIVE_LARGE_BIT_SHIFT, PRIMITIVE_PERFORM, PRIMITIVE_PERFORM_WITH_ARGUMENTS, PRIMITIVE_QUIT,
+    PRIMITIVE_SAY_STRING, PRIMITIVE_SIGNAL, PRIMITIVE_SUSPEND,
+};
 use contexts::{Answer, Cpu, Stop};
 use event_file::EventList;
 use object_memory::ObjectMemory;
@@ -19,7 +25,12 @@ use object_memory::ObjectMemory;
 fn is_control(index: u8) -> bool
     ensures { result ≡ model.is_control index }
 {
-    matches!(index, 80..=84 | 89 | 113)
+    matches!(
+        index,
+        PRIMITIVE_BLOCK_COPY..=PRIMITIVE_PERFORM_WITH_ARGUMENTS
+            | PRIMITIVE_FLUSH_CACHE
+            | PRIMITIVE_QUIT
+    )
 }
 
 /// Whether the primitive is one of processes and semaphores.
@@ -27,7 +38,7 @@ fn is_control(index: u8) -> bool
 fn is_process(index: u8) -> bool
     ensures { result ≡ model.is_process index }
 {
-    matches!(index, 85..=88)
+    matches!(index, PRIMITIVE_SIGNAL..=PRIMITIVE_SUSPEND)
 }
 
 /// Whether the primitive is BitBlt's.
@@ -35,7 +46,7 @@ fn is_process(index: u8) -> bool
 fn is_blit(index: u8) -> bool
     ensures { result ≡ model.is_blit index }
 {
-    index == 96
+    index == PRIMITIVE_COPY_BITS
 }
 
 /// Whether the primitive is one of input, the clock, the display and the transcript.
@@ -43,7 +54,10 @@ fn is_blit(index: u8) -> bool
 fn is_device(index: u8) -> bool
     ensures { result ≡ model.is_device index }
 {
-    matches!(index, 93..=102 | 128)
+    matches!(
+        index,
+        PRIMITIVE_INPUT_SEMAPHORE..=PRIMITIVE_BE_DISPLAY | PRIMITIVE_SAY_STRING
+    )
 }
 
 /// Whether the primitive is one of arithmetic on large integers.
@@ -51,14 +65,14 @@ fn is_device(index: u8) -> bool
 fn is_large(index: u8) -> bool
     ensures { result ≡ model.is_large index }
 {
-    matches!(index, 21..=37)
+    matches!(index, PRIMITIVE_LARGE_ADD..=PRIMITIVE_LARGE_BIT_SHIFT)
 }
 
 /// Whether the primitive is one of the two performs.
 pub(crate) fn is_perform(index: u8) -> bool
     ensures { result ≡ model.is_perform index }
 {
-    matches!(index, 83 | 84)
+    matches!(index, PRIMITIVE_PERFORM | PRIMITIVE_PERFORM_WITH_ARGUMENTS)
 }
 
 /// Whether a primitive failed.
@@ -122,7 +136,7 @@ pub(crate) fn try_primitive<M: ObjectMemory>(
     if is_large(index) {
         return large_ints::run(m, cpu, index);
     }
-    if index < 60 {
+    if index < PRIMITIVE_AT {
         prims_integer::run(m, cpu, index)
     } else {
         prims_object::run(m, cpu, index)

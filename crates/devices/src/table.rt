@@ -14,6 +14,10 @@ use crate::input::{input_semaphore, input_word};
 use crate::state::keep_machine;
 use crate::ticks::{signal_at_tick, tick_words};
 use crate::transcript::say_string;
+use blue_model::primitives::{
+    PRIMITIVE_BE_DISPLAY, PRIMITIVE_INPUT_SEMAPHORE, PRIMITIVE_INPUT_WORD, PRIMITIVE_SAY_STRING,
+    PRIMITIVE_SIGNAL_AT_TICK, PRIMITIVE_SNAPSHOT, PRIMITIVE_TIME_WORDS_INTO,
+};
 use contexts::{Answer, Cpu, Stop};
 use event_file::EventList;
 use object_memory::ObjectMemory;
@@ -33,13 +37,13 @@ pub fn run<M: ObjectMemory>(
     ensures fit { StaysFit M.ObjectMemory m.old m.new result }
 {
     match (index, cpu.args) {
-        (93, 1) => input_semaphore(m, cpu),
-        (95, 0) => input_word(m, cpu, events),
-        (97, 0) => keep_machine(m, cpu),
-        (99, 1) => tick_words(m, cpu),
-        (100, 2) => signal_at_tick(m, cpu),
-        (102, 0) => be_display(m, cpu),
-        (128, 1) => say_string(m, cpu),
+        (PRIMITIVE_INPUT_SEMAPHORE, 1) => input_semaphore(m, cpu),
+        (PRIMITIVE_INPUT_WORD, 0) => input_word(m, cpu, events),
+        (PRIMITIVE_SNAPSHOT, 0) => keep_machine(m, cpu),
+        (PRIMITIVE_TIME_WORDS_INTO, 1) => tick_words(m, cpu),
+        (PRIMITIVE_SIGNAL_AT_TICK, 2) => signal_at_tick(m, cpu),
+        (PRIMITIVE_BE_DISPLAY, 0) => be_display(m, cpu),
+        (PRIMITIVE_SAY_STRING, 1) => say_string(m, cpu),
         _ => Ok(Answer::Failed),
     }
 }

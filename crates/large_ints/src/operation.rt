@@ -5,6 +5,14 @@ ghost use Rattle.blue_model.specs.LargeInts.{large_primitives, large_result};
 ghost use Rattle.large_ints.specs.Operations.{result_of, truth_of, rule_at};
 
 use crate::values;
+use blue_model::primitives::{
+    PRIMITIVE_LARGE_ADD, PRIMITIVE_LARGE_BIT_AND, PRIMITIVE_LARGE_BIT_OR,
+    PRIMITIVE_LARGE_BIT_SHIFT, PRIMITIVE_LARGE_BIT_XOR, PRIMITIVE_LARGE_DIV,
+    PRIMITIVE_LARGE_DIVIDE, PRIMITIVE_LARGE_EQUAL, PRIMITIVE_LARGE_GREATER_OR_EQUAL,
+    PRIMITIVE_LARGE_GREATER_THAN, PRIMITIVE_LARGE_LESS_OR_EQUAL, PRIMITIVE_LARGE_LESS_THAN,
+    PRIMITIVE_LARGE_MOD, PRIMITIVE_LARGE_MULTIPLY, PRIMITIVE_LARGE_NOT_EQUAL, PRIMITIVE_LARGE_QUO,
+    PRIMITIVE_LARGE_SUBTRACT,
+};
 
 /// A number out of two.
 #[derive(Clone, Copy, Debug, PartialEq, Eq)]
@@ -88,23 +96,23 @@ impl Operation {
         ensures { rule_at index result ≡ primitive_in large_primitives index }
     {
         let operation = match index {
-            21 => Operation::Number(Arithmetic::Sum),
-            22 => Operation::Number(Arithmetic::Difference),
-            23 => Operation::Truth(Comparison::Less),
-            24 => Operation::Truth(Comparison::Greater),
-            25 => Operation::Truth(Comparison::AtMost),
-            26 => Operation::Truth(Comparison::AtLeast),
-            27 => Operation::Truth(Comparison::Equal),
-            28 => Operation::Truth(Comparison::Unequal),
-            29 => Operation::Number(Arithmetic::Product),
-            30 => Operation::Number(Arithmetic::ExactQuotient),
-            31 => Operation::Number(Arithmetic::RemainderDown),
-            32 => Operation::Number(Arithmetic::QuotientDown),
-            33 => Operation::Number(Arithmetic::QuotientToZero),
-            34 => Operation::Number(Arithmetic::And),
-            35 => Operation::Number(Arithmetic::Or),
-            36 => Operation::Number(Arithmetic::Xor),
-            37 => Operation::Shift,
+            PRIMITIVE_LARGE_ADD => Operation::Number(Arithmetic::Sum),
+            PRIMITIVE_LARGE_SUBTRACT => Operation::Number(Arithmetic::Difference),
+            PRIMITIVE_LARGE_LESS_THAN => Operation::Truth(Comparison::Less),
+            PRIMITIVE_LARGE_GREATER_THAN => Operation::Truth(Comparison::Greater),
+            PRIMITIVE_LARGE_LESS_OR_EQUAL => Operation::Truth(Comparison::AtMost),
+            PRIMITIVE_LARGE_GREATER_OR_EQUAL => Operation::Truth(Comparison::AtLeast),
+            PRIMITIVE_LARGE_EQUAL => Operation::Truth(Comparison::Equal),
+            PRIMITIVE_LARGE_NOT_EQUAL => Operation::Truth(Comparison::Unequal),
+            PRIMITIVE_LARGE_MULTIPLY => Operation::Number(Arithmetic::Product),
+            PRIMITIVE_LARGE_DIVIDE => Operation::Number(Arithmetic::ExactQuotient),
+            PRIMITIVE_LARGE_MOD => Operation::Number(Arithmetic::RemainderDown),
+            PRIMITIVE_LARGE_DIV => Operation::Number(Arithmetic::QuotientDown),
+            PRIMITIVE_LARGE_QUO => Operation::Number(Arithmetic::QuotientToZero),
+            PRIMITIVE_LARGE_BIT_AND => Operation::Number(Arithmetic::And),
+            PRIMITIVE_LARGE_BIT_OR => Operation::Number(Arithmetic::Or),
+            PRIMITIVE_LARGE_BIT_XOR => Operation::Number(Arithmetic::Xor),
+            PRIMITIVE_LARGE_BIT_SHIFT => Operation::Shift,
             _ => return None,
         };
         Some(operation)

@@ -10,6 +10,11 @@ ghost use Rattle.contexts.specs.Keeping.{NeverKeeps};
 use crate::blocks::block_copy;
 use crate::performs::{perform, perform_with_arguments};
 use crate::values::{value, value_with_arguments};
+use blue_model::primitives::{
+    PRIMITIVE_BLOCK_COPY, PRIMITIVE_FLUSH_CACHE, PRIMITIVE_PERFORM,
+    PRIMITIVE_PERFORM_WITH_ARGUMENTS, PRIMITIVE_QUIT, PRIMITIVE_VALUE,
+    PRIMITIVE_VALUE_WITH_ARGUMENTS,
+};
 use contexts::{Answer, Cpu, Stop};
 use object_memory::ObjectMemory;
 
@@ -22,13 +27,13 @@ pub fn run<M: ObjectMemory>(m: &mut M, cpu: &mut Cpu, index: u8) -> Result<Answe
     ensures fit { StaysFit M.ObjectMemory m.old m.new result }
 {
     match (index, cpu.args) {
-        (80, 1) => block_copy(m, cpu),
-        (81, _) => value(m, cpu),
-        (82, 1) => value_with_arguments(m, cpu),
-        (83, _) => perform(m, cpu),
-        (84, 2) => perform_with_arguments(m, cpu),
-        (89, 0) => Ok(Answer::Done),
-        (113, 0) => Ok(Answer::Quit),
+        (PRIMITIVE_BLOCK_COPY, 1) => block_copy(m, cpu),
+        (PRIMITIVE_VALUE, _) => value(m, cpu),
+        (PRIMITIVE_VALUE_WITH_ARGUMENTS, 1) => value_with_arguments(m, cpu),
+        (PRIMITIVE_PERFORM, _) => perform(m, cpu),
+        (PRIMITIVE_PERFORM_WITH_ARGUMENTS, 2) => perform_with_arguments(m, cpu),
+        (PRIMITIVE_FLUSH_CACHE, 0) => Ok(Answer::Done),
+        (PRIMITIVE_QUIT, 0) => Ok(Answer::Quit),
         _ => Ok(Answer::Failed),
     }
 }

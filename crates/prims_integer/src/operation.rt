@@ -8,6 +8,12 @@ ghost use Rattle.blue_model.specs.Arithmetic.{integer_primitives};
 ghost use Rattle.prims_integer.specs.Operations.{result_of, truth_of, rule_at};
 
 use crate::numbers;
+use blue_model::primitives::{
+    PRIMITIVE_ADD, PRIMITIVE_BIT_AND, PRIMITIVE_BIT_OR, PRIMITIVE_BIT_SHIFT, PRIMITIVE_BIT_XOR,
+    PRIMITIVE_DIV, PRIMITIVE_DIVIDE, PRIMITIVE_EQUAL, PRIMITIVE_GREATER_OR_EQUAL,
+    PRIMITIVE_GREATER_THAN, PRIMITIVE_LESS_OR_EQUAL, PRIMITIVE_LESS_THAN, PRIMITIVE_MAKE_POINT,
+    PRIMITIVE_MOD, PRIMITIVE_MULTIPLY, PRIMITIVE_NOT_EQUAL, PRIMITIVE_QUO, PRIMITIVE_SUBTRACT,
+};
 
 /// A number out of two.
 #[derive(Clone, Copy, Debug, PartialEq, Eq)]
@@ -101,24 +107,24 @@ impl Operation {
         ensures { rule_at index result ≡ primitive_in integer_primitives index }
     {
         let operation = match index {
-            1 => Operation::Number(Arithmetic::Sum),
-            2 => Operation::Number(Arithmetic::Difference),
-            3 => Operation::Truth(Comparison::Less),
-            4 => Operation::Truth(Comparison::Greater),
-            5 => Operation::Truth(Comparison::AtMost),
-            6 => Operation::Truth(Comparison::AtLeast),
-            7 => Operation::Truth(Comparison::Equal),
-            8 => Operation::Truth(Comparison::Unequal),
-            9 => Operation::Number(Arithmetic::Product),
-            10 => Operation::Number(Arithmetic::ExactQuotient),
-            11 => Operation::Number(Arithmetic::RemainderDown),
-            12 => Operation::Number(Arithmetic::QuotientDown),
-            13 => Operation::Number(Arithmetic::QuotientToZero),
-            14 => Operation::Number(Arithmetic::And),
-            15 => Operation::Number(Arithmetic::Or),
-            16 => Operation::Number(Arithmetic::Xor),
-            17 => Operation::Number(Arithmetic::Shift),
-            18 => Operation::Point,
+            PRIMITIVE_ADD => Operation::Number(Arithmetic::Sum),
+            PRIMITIVE_SUBTRACT => Operation::Number(Arithmetic::Difference),
+            PRIMITIVE_LESS_THAN => Operation::Truth(Comparison::Less),
+            PRIMITIVE_GREATER_THAN => Operation::Truth(Comparison::Greater),
+            PRIMITIVE_LESS_OR_EQUAL => Operation::Truth(Comparison::AtMost),
+            PRIMITIVE_GREATER_OR_EQUAL => Operation::Truth(Comparison::AtLeast),
+            PRIMITIVE_EQUAL => Operation::Truth(Comparison::Equal),
+            PRIMITIVE_NOT_EQUAL => Operation::Truth(Comparison::Unequal),
+            PRIMITIVE_MULTIPLY => Operation::Number(Arithmetic::Product),
+            PRIMITIVE_DIVIDE => Operation::Number(Arithmetic::ExactQuotient),
+            PRIMITIVE_MOD => Operation::Number(Arithmetic::RemainderDown),
+            PRIMITIVE_DIV => Operation::Number(Arithmetic::QuotientDown),
+            PRIMITIVE_QUO => Operation::Number(Arithmetic::QuotientToZero),
+            PRIMITIVE_BIT_AND => Operation::Number(Arithmetic::And),
+            PRIMITIVE_BIT_OR => Operation::Number(Arithmetic::Or),
+            PRIMITIVE_BIT_XOR => Operation::Number(Arithmetic::Xor),
+            PRIMITIVE_BIT_SHIFT => Operation::Number(Arithmetic::Shift),
+            PRIMITIVE_MAKE_POINT => Operation::Point,
             _ => return None,
         };
         Some(operation)

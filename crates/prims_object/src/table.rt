@@ -14,6 +14,13 @@ use crate::instances::{instance_variable_at, instance_variable_at_put, new, new_
 use crate::methods::{new_method, object_at, object_at_put};
 use crate::names::{class, equivalent, hash};
 use crate::streams::{at_end, next, next_put};
+use blue_model::primitives::{
+    PRIMITIVE_AS_OOP, PRIMITIVE_AT, PRIMITIVE_AT_END, PRIMITIVE_AT_PUT, PRIMITIVE_BECOME,
+    PRIMITIVE_CLASS, PRIMITIVE_EQUIVALENT, PRIMITIVE_INSTANCE_VARIABLE_AT,
+    PRIMITIVE_INSTANCE_VARIABLE_AT_PUT, PRIMITIVE_NEW, PRIMITIVE_NEW_METHOD,
+    PRIMITIVE_NEW_WITH_ARGUMENT, PRIMITIVE_NEXT, PRIMITIVE_NEXT_PUT, PRIMITIVE_OBJECT_AT,
+    PRIMITIVE_OBJECT_AT_PUT, PRIMITIVE_SIZE, PRIMITIVE_STRING_AT, PRIMITIVE_STRING_AT_PUT,
+};
 use contexts::{Answer, Cpu, Stop};
 use object_memory::ObjectMemory;
 
@@ -26,25 +33,25 @@ pub fn run<M: ObjectMemory>(m: &mut M, cpu: &mut Cpu, index: u8) -> Result<Answe
     ensures fit { StaysFit M.ObjectMemory m.old m.new result }
 {
     match (index, cpu.args) {
-        (60, 1) => at(m, cpu),
-        (61, 2) => at_put(m, cpu),
-        (62, 0) => size(m, cpu),
-        (63, 1) => string_at(m, cpu),
-        (64, 2) => string_at_put(m, cpu),
-        (65, 0) => next(m, cpu),
-        (66, 1) => next_put(m, cpu),
-        (67, 0) => at_end(m, cpu),
-        (68, 1) => object_at(m, cpu),
-        (69, 2) => object_at_put(m, cpu),
-        (70, 0) => new(m, cpu),
-        (71, 1) => new_with_size(m, cpu),
-        (72, 1) => change_places(m, cpu),
-        (73, 1) => instance_variable_at(m, cpu),
-        (74, 2) => instance_variable_at_put(m, cpu),
-        (75, 0) => hash(m, cpu),
-        (79, 2) => new_method(m, cpu),
-        (110, 1) => equivalent(m, cpu),
-        (111, 0) => class(m, cpu),
+        (PRIMITIVE_AT, 1) => at(m, cpu),
+        (PRIMITIVE_AT_PUT, 2) => at_put(m, cpu),
+        (PRIMITIVE_SIZE, 0) => size(m, cpu),
+        (PRIMITIVE_STRING_AT, 1) => string_at(m, cpu),
+        (PRIMITIVE_STRING_AT_PUT, 2) => string_at_put(m, cpu),
+        (PRIMITIVE_NEXT, 0) => next(m, cpu),
+        (PRIMITIVE_NEXT_PUT, 1) => next_put(m, cpu),
+        (PRIMITIVE_AT_END, 0) => at_end(m, cpu),
+        (PRIMITIVE_OBJECT_AT, 1) => object_at(m, cpu),
+        (PRIMITIVE_OBJECT_AT_PUT, 2) => object_at_put(m, cpu),
+        (PRIMITIVE_NEW, 0) => new(m, cpu),
+        (PRIMITIVE_NEW_WITH_ARGUMENT, 1) => new_with_size(m, cpu),
+        (PRIMITIVE_BECOME, 1) => change_places(m, cpu),
+        (PRIMITIVE_INSTANCE_VARIABLE_AT, 1) => instance_variable_at(m, cpu),
+        (PRIMITIVE_INSTANCE_VARIABLE_AT_PUT, 2) => instance_variable_at_put(m, cpu),
+        (PRIMITIVE_AS_OOP, 0) => hash(m, cpu),
+        (PRIMITIVE_NEW_METHOD, 2) => new_method(m, cpu),
+        (PRIMITIVE_EQUIVALENT, 1) => equivalent(m, cpu),
+        (PRIMITIVE_CLASS, 0) => class(m, cpu),
         _ => Ok(Answer::Failed),
     }
 }

@@ -13,6 +13,9 @@ use crate::scheduler::has_list;
 use crate::semaphores::{signal, wait};
 use crate::switches::{current_process, resume, suspend_active};
 use blue_model::indexes::{EXCESS_SIGNALS_INDEX, PRIORITY_INDEX, PROCESS_SIZE, SEMAPHORE_SIZE};
+use blue_model::primitives::{
+    PRIMITIVE_RESUME, PRIMITIVE_SIGNAL, PRIMITIVE_SUSPEND, PRIMITIVE_WAIT,
+};
 use contexts::parts::known;
 use contexts::peeks::peek_number;
 use contexts::{Answer, Cpu, Stop, put_stack, stack};
@@ -95,10 +98,10 @@ pub fn run<M: ObjectMemory>(m: &mut M, cpu: &mut Cpu, index: u8) -> Result<Answe
     ensures fit { StaysFit M.ObjectMemory m.old m.new result }
 {
     match (index, cpu.args) {
-        (85, 0) => primitive_signal(m, cpu),
-        (86, 0) => primitive_wait(m, cpu),
-        (87, 0) => primitive_resume(m, cpu),
-        (88, 0) => primitive_suspend(m, cpu),
+        (PRIMITIVE_SIGNAL, 0) => primitive_signal(m, cpu),
+        (PRIMITIVE_WAIT, 0) => primitive_wait(m, cpu),
+        (PRIMITIVE_RESUME, 0) => primitive_resume(m, cpu),
+        (PRIMITIVE_SUSPEND, 0) => primitive_suspend(m, cpu),
         _ => Ok(Answer::Failed),
     }
 }
