@@ -1,6 +1,7 @@
 pub mod Cause
 pub mod Machine
 pub mod Parts
+pub mod Pointers
 pub mod Contexts
 pub mod Lookup
 pub mod ClassList

@@ -11,7 +11,8 @@ ghost use Rattle.blue_model.specs.declared.cause.Cause.TheVariants.{Pointer, Unu
 ghost use Rattle.blue_model.specs.declared.indexes.TheConstants.{NEXT_LINK_INDEX};
 ghost use Rattle.blue_model.specs.declared.limits.TheConstants.{LONGEST_CHAIN};
 ghost use Rattle.blue_model.specs.Machine.{Machine, LogRow, Go, at_rest};
-ghost use Rattle.blue_model.specs.Contexts.{start, park};
+ghost use Rattle.blue_model.specs.Contexts.{start, park, load, fetch, jump, push, pop, stated, store_registers};
+ghost use Rattle.blue_model.specs.Pointers.{CanState, StatesSmall, RunsShort, store_untested};
 ghost use Rattle.blue_model.specs.Arithmetic.{sum, divided, exact_quotient, rounded_down, quotient_down, remainder_down, quotient_to_zero, bits_and, shifted};
 ghost use Rattle.blue_model.specs.LargeInts.{magnitude, fewest_bytes, in_range, large_value, number_at, large_operand, large_answer, large_and, large_result};
 ghost use Rattle.blue_model.specs.Lookup.{lookup, find_from_register};
@@ -178,6 +179,19 @@ pub fn a_whole_run_respects_thinning()
 /// The tests of the rules that write a value down never say no over a whole heap.
 pub fn tests_never_say_no()
     ensures { (m : Machine) → IsWholeMachine m → AllThere m }
+{}
+
+/// Where the active context can state both pointers, as SmallIntegers, storing them is what it is without the tests of that. It can where a
+/// context is loaded whose numbers are SmallIntegers, as those of an image are, and each rule that changes a pointer leaves it so: a fetch, a
+/// jump, a push and a pop. Behind a byte of a method with no more code than an image may have, a block's pointer can be stated too.
+pub fn pointers_can_be_stated()
+    ensures tests { (m : Machine) → CanState m → store_registers m ≡ store_untested m }
+    ensures load { (context : Value) (m s : Machine) (log : List LogRow) → StatesSmall m context → load context m ≡ Go tt s log → CanState s }
+    ensures fetch { (m s : Machine) (byte : ℕ) (log : List LogRow) → CanState m → fetch m ≡ Go byte s log → CanState s }
+    ensures jump { (distance : ℤ) (m s : Machine) (log : List LogRow) → CanState m → jump distance m ≡ Go tt s log → CanState s }
+    ensures push { (v : Value) (m s : Machine) (log : List LogRow) → CanState m → push v m ≡ Go tt s log → CanState s }
+    ensures pop { (n : ℕ) (m s : Machine) (log : List LogRow) → CanState m → pop n m ≡ Go tt s log → CanState s }
+    ensures block { (m s : Machine) (byte : ℕ) (log : List LogRow) → RunsShort m → fetch m ≡ Go byte s log → stated (s.cpu.ip +ℤ pos 3) ≡ Some (s.cpu.ip +ℤ pos 3) }
 {}
 
 /// Each byte is in one range of the table, and does what that range says.

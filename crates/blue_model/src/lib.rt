@@ -12,14 +12,14 @@
 //!
 //! Read `Machine` first, of the files of `specs/`, then `Contexts`, `Lookup`, `Messages`, `Sends`, `Bytecodes` and `Cycle`, and `Loaded`
 //! and `Guarded` for what is kept; primitives are in `Arithmetic`, `Storage`, `Control`, `Processes`, `BitBlt` and `Devices`, and
-//! `Queues` reads process lists as lists. `Law` says what the laws of thinning promise, `Alike` how they are proved of rules, and `Base`
-//! and `Snaps` have heaps as worked values. The crate runs nothing.
+//! `Queues` reads process lists as lists. `Pointers` has the numbers by which a context states its pointers. `Law` says what the laws of
+//! thinning promise, `Alike` how they are proved of rules, and `Base` and `Snaps` have heaps as worked values. The crate runs nothing.
 //!
 //! - Proved: As laws: every rule goes the same way over a heap from which dead objects were freed early; runs add up; each byte has one
 //!   rule; a lookup takes the first class that has the selector; process lists are queues. Guarded runs go on from what was kept.
 //! - Tested: By the cases of a reference machine that was written apart from it (`docs/CASES.md`), and by worked values.
-//! - Not said: That these definitions are the Blue Book's is for a reader to compare. That both pointers of a machine always fit its
-//!   context is read off the sizes.
+//! - Not said: That these definitions are the Blue Book's is for a reader to compare. That the tests of pointers never say no is a law of
+//!   each rule that sets one, and of a context whose numbers are SmallIntegers; that a run leaves them so isn't said.
 #![tactic(auto)]
 
 mod answer;
