@@ -1,5 +1,6 @@
 -- What was read in two or more steps: the tokens of the parts are those of the whole.
-use Rattle.std.proofs.Common.{◌≡◌, List, [], ◌∷◌, ◌++◌, refl, sym, ap, ◌∙◌, append_assoc, append-nil}
+use Rattle.std.proofs.Common.{◌≡◌, List, [], ◌∷◌, ◌++◌, Result, Ok, Err, IfOk, refl, sym, ap, ◌∙◌, append_assoc, append-nil}
+use Rattle.st80_parser.specs.declared.error.ParseError.{ParseError}
 use Rattle.st80_syntax.specs.declared.token.Token.{Token}
 
 -- one part, and then another one
@@ -69,3 +70,8 @@ left_there xs same e = e ∙ ap (λ (zs : List Token). xs ++ zs) (sym same)
 -- four parts, of which the first was there
 pub four : {old m1 m2 : List Token} (ws xs ys zs new : List Token) → old ≡ xs ++ m1 → m1 ≡ ys ++ m2 → m2 ≡ zs ++ new → ws ++ old ≡ (ws ++ (xs ++ (ys ++ zs))) ++ new
 four {old = old} ws xs ys zs new e f g = join {mid = old} ws (xs ++ (ys ++ zs)) new refl (join xs (ys ++ zs) new e (join ys zs new f g))
+
+-- what was read where the same tokens stood
+pub replaced : (A : Type 0) (f : A → List Token) (old other new : List Token) (r : Result A ParseError) → old ≡ other → IfOk r (λ a. other ≡ f a ++ new) → IfOk r (λ a. old ≡ f a ++ new)
+replaced A f old other new (Ok a) same h = same ∙ h
+replaced A f old other new (Err e) same h = tt

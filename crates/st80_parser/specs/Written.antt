@@ -1,5 +1,5 @@
 -- The tokens of a tree, from left to right. With the types of the tree this is the grammar: a tree is a derivation of what it is written as.
-use Rattle.std.specs.Prelude.{ℕ, ◌≡◌, ◌≤◌, List, [], ◌∷◌, ◌++◌, length}
+use Rattle.std.specs.Prelude.{List, [], ◌∷◌, ◌++◌}
 use Rattle.st80_syntax.specs.declared.token.Token.{Token}
 use Rattle.st80_parser.specs.declared.tree.Expr.{Expr}
 use Rattle.st80_parser.specs.declared.tree.Expr.TheVariants.{Name, Literal, Negative, Array, Group', Block', Assign', Unary', Binary', Keyword', Cascade'}
@@ -26,8 +26,6 @@ use Rattle.st80_parser.specs.declared.tree.Primitive.TheVariants as primitive
 use Rattle.st80_parser.specs.declared.tree.Pattern.{Pattern}
 use Rattle.st80_parser.specs.declared.tree.Pattern.TheVariants as pattern
 use Rattle.st80_parser.specs.declared.tree.Method.{Method}
-use Rattle.st80_parser.specs.declared.methods.Parsed.{Parsed}
-use Rattle.st80_parser.specs.declared.methods.Parsed.TheVariants as parsed
 
 abbrev pub Tokens : Type 0
 Tokens = List Token
@@ -109,10 +107,3 @@ body b = steps b.0 ++ last_of b.1
 
 unfoldable pub method : Method → Tokens
 method m = pattern_of m.pattern ++ (temporaries_of m.temporaries ++ (primitive_of m.primitive ++ (steps m.steps ++ last_of m.last)))
-
--- ---- what tokens are read as
-
--- a tree that is written as all of them; or a refusal at one of them, or behind the last
-abbrev pub IsParsed : Tokens → Parsed → Type 0
-IsParsed tokens (parsed.Method m) = tokens ≡ method m
-IsParsed tokens (parsed.Refused r) = r.number ≤ length tokens

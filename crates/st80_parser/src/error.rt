@@ -1,4 +1,7 @@
 // Why no tree is answered.
+ghost use Rattle.std.specs.Prelude.{◌≡◌};
+ghost use Rattle.st80_parser.specs.declared.error.ParseError.TheVariants.{Memory};
+
 use std::alloc::AllocError;
 
 /// What could stand where a token is refused.
@@ -36,6 +39,8 @@ pub enum ParseError {
 }
 
 impl From<AllocError> for ParseError {
+    ghost from_gives = { λ a e. e ≡ Memory a };
+
     fn from(error: AllocError) -> ParseError {
         ParseError::Memory(error)
     }

@@ -7,18 +7,26 @@
 //!         Parsed::Refused(refused) => say(refused.number, refused.expected),
 //!     }
 //!
-//! The types of the tree are the grammar: each of their variants is a rule, and has the tokens and the parts that the rule has, in their order. What
-//! a tree is written as is thus all of its tokens, from left to right. Read `specs/Written.antt`.
+//! The types of the tree are the grammar's rules: each of their variants has the tokens and the parts that the rule has, in their order. What a
+//! tree is written as is thus all of its tokens, from left to right (`specs/Written.antt`). `specs/Grammar.antt` says which trees are of the grammar:
+//! of which kinds their tokens are, which expression stands where, and how deep they nest.
 //!
-//! - Proved: A tree that is answered is written as the tokens, all of them. A refusal is at one of the tokens or behind the last. Every call returns.
+//! Where the parser stands is a list of what may come (`specs/Stands.antt`), and the next token's kind alone says what comes of it. Each rule of the
+//! code leaves the list behind its own part, or is refused where the list has nothing for the next token. Read `specs/Written.antt`, then
+//! `specs/Grammar.antt`.
+//!
+//! - Proved: A tree that is answered is written as the tokens, all of them. Tokens that a tree of the grammar is written as are never refused. A
+//!   refusal is at the first token that no rule takes where the parser stands, or behind the last: no tree of the grammar is written as the tokens
+//!   before it and then one of its kind, whatever follows. Every call returns.
 //! - Tested: Nothing by itself.
-//! - Not said: Which tree it is where the tokens are those of two, and that tokens that are those of a tree aren't refused.
+//! - Not said: That a tree that is answered is of the grammar, and the only one that is so written. That what stands before a refusal begins a tree.
 #![tactic(auto)]
 
 mod arrays;
 mod cursor;
 mod error;
 mod expressions;
+mod kinds;
 mod making;
 mod methods;
 mod rules;

@@ -1,5 +1,6 @@
 // Trees out of their parts. What each is written as follows from the parts.
 ghost use Rattle.std.specs.Prelude.{◌≡◌, [], ◌∷◌, ◌++◌, IfOk};
+ghost use Rattle.st80_parser.specs.Stands.{Binary, Plain, Sent, Unary, state_of};
 ghost use Rattle.st80_parser.specs.Written.{elements, expr, header_of, last_of, names, others, pairs, parts, steps};
 
 use crate::tree::{Elements, Expr, Header, Last, Names, Others, Pairs, Parts, Steps};
@@ -12,7 +13,8 @@ pub(crate) fn group_of(
     inner: Expr,
     close: Token,
 ) -> Result<Expr, AllocError>
-    ensures { IfOk result (λ e. expr e ≡ opening ∷ (expr inner ++ close ∷ [])) }
+    ensures is { IfOk result (λ e. expr e ≡ opening ∷ (expr inner ++ close ∷ [])) }
+    ensures state { IfOk result (λ e. state_of e ≡ Plain) }
 {
     Ok(Expr::Group(opening, Box::new(alloc, inner)?, close))
 }
@@ -24,7 +26,8 @@ pub(crate) fn block_of(
     body: (Steps, Last),
     close: Token,
 ) -> Result<Expr, AllocError>
-    ensures { IfOk result (λ e. expr e ≡ opening ∷ (header_of header ++ ((steps body.0 ++ last_of body.1) ++ close ∷ []))) }
+    ensures is { IfOk result (λ e. expr e ≡ opening ∷ (header_of header ++ ((steps body.0 ++ last_of body.1) ++ close ∷ []))) }
+    ensures state { IfOk result (λ e. state_of e ≡ Plain) }
 {
     let (steps, last) = body;
     let steps = Box::new(alloc, steps)?;
@@ -44,7 +47,8 @@ pub(crate) fn assign_of(
 }
 
 pub(crate) fn unary_of(alloc: Global, receiver: Expr, selector: Token) -> Result<Expr, AllocError>
-    ensures { IfOk result (λ e. expr e ≡ expr receiver ++ selector ∷ []) }
+    ensures is { IfOk result (λ e. expr e ≡ expr receiver ++ selector ∷ []) }
+    ensures state { IfOk result (λ e. state_of e ≡ Unary) }
 {
     Ok(Expr::Unary(Box::new(alloc, receiver)?, selector))
 }
@@ -55,7 +59,8 @@ pub(crate) fn binary_of(
     selector: Token,
     argument: Expr,
 ) -> Result<Expr, AllocError>
-    ensures { IfOk result (λ e. expr e ≡ expr receiver ++ selector ∷ expr argument) }
+    ensures is { IfOk result (λ e. expr e ≡ expr receiver ++ selector ∷ expr argument) }
+    ensures state { IfOk result (λ e. state_of e ≡ Binary) }
 {
     let receiver = Box::new(alloc, receiver)?;
     let argument = Box::new(alloc, argument)?;
@@ -67,7 +72,8 @@ pub(crate) fn keyword_of(
     receiver: Expr,
     arguments: Parts,
 ) -> Result<Expr, AllocError>
-    ensures { IfOk result (λ e. expr e ≡ expr receiver ++ parts arguments) }
+    ensures is { IfOk result (λ e. expr e ≡ expr receiver ++ parts arguments) }
+    ensures state { IfOk result (λ e. state_of e ≡ Sent) }
 {
     let receiver = Box::new(alloc, receiver)?;
     let arguments = Box::new(alloc, arguments)?;
@@ -75,7 +81,8 @@ pub(crate) fn keyword_of(
 }
 
 pub(crate) fn cascade_of(alloc: Global, first: Expr, more: Others) -> Result<Expr, AllocError>
-    ensures { IfOk result (λ e. expr e ≡ expr first ++ others more) }
+    ensures is { IfOk result (λ e. expr e ≡ expr first ++ others more) }
+    ensures state { IfOk result (λ e. state_of e ≡ Sent) }
 {
     let first = Box::new(alloc, first)?;
     let more = Box::new(alloc, more)?;

@@ -1,17 +1,24 @@
 // Rules without expressions in them.
-ghost use Rattle.std.specs.Prelude.{◌≡◌, ◌≤◌, ◌++◌, ◌∷◌, IfOk, length};
+ghost use Rattle.std.specs.Prelude.{◌≡◌, ◌≤◌, ◌++◌, ◌∷◌, [], false, List, IfOk, length};
+ghost use Rattle.st80_syntax.specs.declared.token.Kind.TheVariants as kinds;
+ghost use Rattle.st80_parser.specs.Kinds.{same_kind};
+ghost use Rattle.st80_parser.specs.Stands as stands;
+ghost use Rattle.st80_parser.specs.Stands.{Plain, Runs, Symbol, state_of};
 ghost use Rattle.st80_parser.specs.Written.{expr, header_of, names, pairs, pattern_of, primitive_of, temporaries_of};
 
 use crate::cursor::Cursor;
 use crate::error::{Expected, ParseError};
+use crate::kinds::{Joint, same_kind};
 use crate::making::{name_of, pair_of};
 use crate::tree::{Expr, Header, Names, Pairs, Pattern, Primitive, Temporaries};
-use st80_syntax::Kind;
+use st80_syntax::{Kind, Token};
 use std::alloc::Global;
 
 /// Marks of a kind, each with a name behind it.
 fn pairs_in(alloc: Global, cursor: &mut Cursor<'_>, mark: Kind) -> Result<Pairs, ParseError>
+    requires real { same_kind kinds.End mark ≡ false }
     ensures reads { IfOk result (λ ps. cursor.old.rest.now ≡ pairs ps ++ cursor.new.rest.now) }
+    ensures runs { (xs : List Symbol) → Runs result (stands.Marks mark ∷ xs) (λ _. xs) cursor.old.rest.now cursor.new.rest.now }
     ensures within { length cursor.new.rest.now ≤ length cursor.old.rest.now }
 {
     let mut found = Pairs::Start;
@@ -26,6 +33,7 @@ fn pairs_in(alloc: Global, cursor: &mut Cursor<'_>, mark: Kind) -> Result<Pairs,
 /// Names, up to what is none.
 fn names_in(alloc: Global, cursor: &mut Cursor<'_>) -> Result<Names, ParseError>
     ensures reads { IfOk result (λ ns. cursor.old.rest.now ≡ names ns ++ cursor.new.rest.now) }
+    ensures runs { (xs : List Symbol) → Runs result (stands.Names ∷ xs) (λ _. xs) cursor.old.rest.now cursor.new.rest.now }
     ensures within { length cursor.new.rest.now ≤ length cursor.old.rest.now }
 {
     let mut found = Names::Start;
@@ -39,9 +47,10 @@ fn names_in(alloc: Global, cursor: &mut Cursor<'_>) -> Result<Names, ParseError>
 /// The arguments of a block, if there are any.
 pub(crate) fn header(alloc: Global, cursor: &mut Cursor<'_>) -> Result<Header, ParseError>
     ensures reads { IfOk result (λ h. cursor.old.rest.now ≡ header_of h ++ cursor.new.rest.now) }
+    ensures runs { (xs : List Symbol) → Runs result (stands.Header ∷ xs) (λ _. xs) cursor.old.rest.now cursor.new.rest.now }
     ensures within { length cursor.new.rest.now ≤ length cursor.old.rest.now }
 {
-    if cursor.peek() != Kind::Colon {
+    if !same_kind(cursor.peek(), Kind::Colon) {
         return Ok(Header::Nothing);
     }
     let arguments = pairs_in(alloc, cursor, Kind::Colon)?;
@@ -52,6 +61,7 @@ pub(crate) fn header(alloc: Global, cursor: &mut Cursor<'_>) -> Result<Header, P
 /// Temporaries between bars, if there are any.
 pub(crate) fn temporaries(alloc: Global, cursor: &mut Cursor<'_>) -> Result<Temporaries, ParseError>
     ensures reads { IfOk result (λ ts. cursor.old.rest.now ≡ temporaries_of ts ++ cursor.new.rest.now) }
+    ensures runs { (xs : List Symbol) → Runs result (stands.Temporaries ∷ xs) (λ _. xs) cursor.old.rest.now cursor.new.rest.now }
     ensures within { length cursor.new.rest.now ≤ length cursor.old.rest.now }
 {
     let Some(opening) = cursor.eat(Kind::Bar) else {
@@ -65,6 +75,7 @@ pub(crate) fn temporaries(alloc: Global, cursor: &mut Cursor<'_>) -> Result<Temp
 /// A primitive, if there is one.
 pub(crate) fn primitive(cursor: &mut Cursor<'_>) -> Result<Primitive, ParseError>
     ensures reads { IfOk result (λ p. cursor.old.rest.now ≡ primitive_of p ++ cursor.new.rest.now) }
+    ensures runs { (xs : List Symbol) → Runs result (stands.Primitive ∷ xs) (λ _. xs) cursor.old.rest.now cursor.new.rest.now }
     ensures within { length cursor.new.rest.now ≤ length cursor.old.rest.now }
 {
     let Some(opening) = cursor.eat(Kind::Binary) else {
@@ -76,38 +87,31 @@ pub(crate) fn primitive(cursor: &mut Cursor<'_>) -> Result<Primitive, ParseError
     Ok(Primitive::Of(opening, word, number, close))
 }
 
-/// A binary selector, and the name of its argument.
-fn binary_pattern(cursor: &mut Cursor<'_>) -> Result<Pattern, ParseError>
-    ensures reads { IfOk result (λ p. cursor.old.rest.now ≡ pattern_of p ++ cursor.new.rest.now) }
-    ensures within { length cursor.new.rest.now ≤ length cursor.old.rest.now }
-{
-    match cursor.operator() {
-        Some(selector) => {
-            let name = cursor.expect(Kind::Name, Expected::Name)?;
-            Ok(Pattern::Binary(selector, name))
-        }
-        None => Err(ParseError::Refused(Expected::Pattern)),
-    }
-}
-
 /// The selector of a method with its arguments.
 pub(crate) fn pattern(alloc: Global, cursor: &mut Cursor<'_>) -> Result<Pattern, ParseError>
     ensures reads { IfOk result (λ p. cursor.old.rest.now ≡ pattern_of p ++ cursor.new.rest.now) }
+    ensures runs { (xs : List Symbol) → Runs result (stands.Selector ∷ xs) (λ _. xs) cursor.old.rest.now cursor.new.rest.now }
     ensures within { length cursor.new.rest.now ≤ length cursor.old.rest.now }
 {
-    match cursor.peek() {
-        Kind::Name => Ok(Pattern::Unary(cursor.next(Expected::Pattern)?)),
-        Kind::Keyword => Ok(Pattern::Keyword(pairs_in(alloc, cursor, Kind::Keyword)?)),
-        _ => binary_pattern(cursor),
+    match cursor.joint() {
+        Joint::Name => Ok(Pattern::Unary(cursor.next())),
+        Joint::Operator => {
+            let selector = cursor.next();
+            let name = cursor.expect(Kind::Name, Expected::Name)?;
+            Ok(Pattern::Binary(selector, name))
+        }
+        Joint::Keyword => Ok(Pattern::Keyword(pairs_in(alloc, cursor, Kind::Keyword)?)),
+        _ => Err(ParseError::Refused(Expected::Pattern)),
     }
 }
 
-/// A minus, and the integer that stands right behind it.
-pub(crate) fn negative(cursor: &mut Cursor<'_>) -> Result<Expr, ParseError>
-    ensures reads { IfOk result (λ e. cursor.old.rest.now ≡ expr e ++ cursor.new.rest.now) }
+/// A minus, which was taken, and the integer behind it.
+pub(crate) fn negative(cursor: &mut Cursor<'_>, minus: Token) -> Result<Expr, ParseError>
+    ensures reads { IfOk result (λ e. minus ∷ cursor.old.rest.now ≡ expr e ++ cursor.new.rest.now) }
+    ensures runs { (xs : List Symbol) → Runs result (stands.One kinds.Integer ∷ xs) (λ _. xs) cursor.old.rest.now cursor.new.rest.now }
+    ensures state { IfOk result (λ e. state_of e ≡ Plain) }
     ensures within { length cursor.new.rest.now ≤ length cursor.old.rest.now }
 {
-    let minus = cursor.next(Expected::Expression)?;
     let number = cursor.expect(Kind::Integer, Expected::Number)?;
     Ok(Expr::Negative(minus, number))
 }

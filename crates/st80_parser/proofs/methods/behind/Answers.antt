@@ -1,7 +1,33 @@
-use Rattle.st80_parser.proofs.JoinLaws.{four}
+use Rattle.std.proofs.Common.{◌≡◌, ◌≤◌, ◌≢◌, ℕ, ◌-◌, ◌==◌, ◌&&◌, Bool, true, false, List, [], ◌∷◌, ◌++◌, length, Some, None, refl, sym, ap, subst, ◌∙◌, append_assoc, arith}
+use Rattle.st80_syntax.specs.declared.token.Token.{Token}
+use Rattle.st80_syntax.specs.declared.token.Kind.{Kind}
+use Rattle.st80_syntax.specs.declared.token.Kind.TheVariants as kind
+use Rattle.st80_parser.specs.declared.kinds.Opening.{Opening}
+use Rattle.st80_parser.specs.declared.kinds.Opening.TheVariants as opening
+use Rattle.st80_parser.specs.declared.kinds.Joint.{Joint}
+use Rattle.st80_parser.specs.declared.kinds.Joint.TheVariants as joint
+use Rattle.st80_parser.specs.declared.kinds.Item.TheVariants as item
+use Rattle.st80_parser.specs.declared.tree.Expr.{Expr}
+use Rattle.st80_parser.specs.Kinds.{item_of, joint_of, kind_at, opening_of, same_kind}
+use Rattle.st80_parser.specs.Stands.{After, Argument, Behind, Binary, Body, Dot, Elements, First, Header, Keywords, Marks, Message, Named, Names, Nested, One, Operand, Others, Place, Plain, Primitive, Selector, Sent, State, Stopped, Symbol, Temporaries, Unary, Whole, after, begun, cascades, elements, inside, is_group, is_message, is_sent, keywords, message, others, run, selector, state_of, takes_names}
+use Rattle.st80_parser.proofs.StandLaws as stand
+use Rattle.st80_parser.proofs.StandLaws.{fails, left, memory, refuses, runs_behind, skips, took}
+use Rattle.st80_parser.proofs.JoinLaws as join
 use Rattle.st80_parser.specs.Written.{method}
 use Rattle.st80_parser.proofs.methods.behind.Goals as goal
 
+pub returns-in_err-names-clause-runs : goal.returns-in_err-names-clause-runs
+returns-in_err-names-clause-runs c = fails _ _ _ _ _ _ _ _ _ c.from_residual.ensures.1 (refl) (c.in_err-names.ensures.runs (Primitive ∷ Body 100 ∷ []))
+
+pub returns-in_err-number-clause-runs : goal.returns-in_err-number-clause-runs
+returns-in_err-number-clause-runs c = fails _ _ _ _ _ _ _ _ _ c.from_residual-in_err-number.ensures.1 (c.in_ok-names.ensures.runs (Primitive ∷ Body 100 ∷ [])) (c.in_err-number.ensures.runs (Body 100 ∷ []))
+
+pub returns-in_err-inner-clause-runs : goal.returns-in_err-inner-clause-runs
+returns-in_err-inner-clause-runs c = fails _ _ _ _ _ _ _ _ _ c.from_residual-in_err-inner.ensures.1 (c.in_ok-names.ensures.runs (Primitive ∷ Body 100 ∷ []) ∙ c.in_ok-number.ensures.runs (Body 100 ∷ [])) (c.in_err-inner.ensures.runs [])
+
+pub returns-clause-runs : goal.returns-clause-runs
+returns-clause-runs c = c.in_ok-names.ensures.runs (Primitive ∷ Body 100 ∷ []) ∙ c.in_ok-number.ensures.runs (Body 100 ∷ []) ∙ c.in_ok-inner.ensures.runs []
+
 pub returns-clause-reads : goal.returns-clause-reads
 unfolding method
-returns-clause-reads c = four _ _ _ _ _ c.in_ok-names.ensures.reads c.in_ok-number.ensures.reads c.in_ok-inner.ensures.reads
+returns-clause-reads c = join.four _ _ _ _ _ c.in_ok-names.ensures.reads c.in_ok-number.ensures.reads c.in_ok-inner.ensures.reads
