@@ -1,5 +1,5 @@
 -- What the calls of a system do to its files.
-use Rattle.std.specs.Prelude.{◌≡◌, ◌≢◌, ◌⊎◌, ℕ, ◌+◌, Bool, true, false, List, [], ◌∷◌, ◌++◌, length, Option, None, Some, if◌then◌else◌}
+use Rattle.std.specs.Prelude.{◌≡◌, ◌≢◌, ◌⊎◌, ℕ, ◌+◌, ◌≤◌, ◌<◌, Bool, true, false, List, [], ◌∷◌, ◌++◌, length, drop, Option, None, Some, slice_index, if◌then◌else◌}
 use Rattle.std.specs.Option.{option_map}
 use Rattle.loom_host.specs.Bytes.{overwritten}
 use Rattle.file_system.specs.World.{Entry, Run, Whole, FileState, Opening, World, Moments, is_regular}
@@ -156,6 +156,16 @@ pub record Appends (d : ℕ) (o : Opening) (bytes : List ℕ) (w v : World) : Ty
 pub record Spoils (i : ℕ) (w v : World) : Type 0 where
   pub opened : SameOpened w v
   pub kind : (v.files i).kind ≡ (w.files i).kind
+  pub files : SameFilesBut i w v
+  pub names : SameNames w v
+
+-- a write of so many bytes at a place failed: any may stand there, and elsewhere nothing changed
+pub record Tears (place len i : ℕ) (w v : World) : Type 0 where
+  pub kind : (v.files i).kind ≡ (w.files i).kind
+  pub outside : (k : ℕ) → (place ≤ k → k < place + len → ⊥) → slice_index (v.files i).bytes k ≡ slice_index (w.files i).bytes k
+  pub unsure : (v.files i).unsure ≡ Run place len ∷ (w.files i).unsure
+  pub spoiled : (v.files i).spoiled ≡ (w.files i).spoiled
+  pub opened : SameOpened w v
   pub files : SameFilesBut i w v
   pub names : SameNames w v
 

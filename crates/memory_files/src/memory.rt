@@ -349,12 +349,11 @@ impl System for MemoryFiles {
         if seen.way != Some(Way::Place) {
             return Err(Refusal::Failed);
         }
-        let n = buf.len().min(MOST);
-        let Ok(bytes) = Vec::from_slice(self.alloc, &buf[..n]) else {
+        let Ok(bytes) = Vec::from_slice(self.alloc, buf) else {
             return Err(Refusal::Failed);
         };
         self.on(descriptor, Change::Written(place, bytes))?;
-        Ok(n)
+        Ok(buf.len())
     }
 
     fn cut(&mut self, descriptor: u32) -> Result<(), Refusal> {
