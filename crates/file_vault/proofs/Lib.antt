@@ -1,0 +1,6 @@
+mod StepLaws
+mod StandLaws
+mod OpenLaws
+mod LeaveLaws
+mod VaultLaws
+mod PieceLaws

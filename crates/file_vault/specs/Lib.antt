@@ -1,0 +1,4 @@
+pub mod Gates
+pub mod Others
+pub mod Told
+pub mod Disk
