@@ -132,8 +132,9 @@ fi
 if [ -x "$st80" ]; then
     part desk tests/desk.sh "$st80"
     part build tests/build.sh "$st80"
+    part source tests/source.sh "$st80"
 else
-    for name in desk build; do skip $name "there is no program $st80; ./demo builds it"; done
+    for name in desk build source; do skip $name "there is no program $st80; ./demo builds it"; done
 fi
 if [ -x "$file_cases" ]; then part cases cases_on_files; else skip cases "there is no program $file_cases; rt ci builds it"; fi
 if command -v rt >/dev/null; then part quick picture_first; else skip quick "the kit's command rt isn't on the path"; fi

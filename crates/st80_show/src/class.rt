@@ -3,6 +3,7 @@ use crate::columns::put_counted;
 use long_names::Name;
 use st80_code::put_method;
 use st80_view::{MethodHome, View};
+use st80_write::source_of;
 use std::alloc::{AllocError, Global};
 
 /// How many superclasses are put.
@@ -11,14 +12,20 @@ const LONGEST_CHAIN: usize = 1024;
 /// The field of a class that says what its objects are.
 const SPECIFICATION: usize = 2;
 
-/// Puts a method, instruction by instruction.
+/// Puts a method as source, or instruction by instruction where it has none.
 pub fn show_method(
     alloc: Global,
     out: &mut String,
     view: &View,
     method: Name,
 ) -> Result<(), AllocError> {
-    put_method(alloc, out, view, method)
+    let Some(source) = source_of(alloc, view, method)? else {
+        return put_method(alloc, out, view, method);
+    };
+    let number = method.get();
+    view.put_method_name(out, method)?;
+    write!(out, " ({number})\n")?;
+    out.push_str(&source)
 }
 
 /// Puts a class: its superclasses, what its objects are and how many there are, its subclasses and its methods.
