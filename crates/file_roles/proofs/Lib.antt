@@ -1,2 +1,4 @@
+pub mod LeftLaws
 pub mod OpenLaws
+pub mod PieceLaws
 pub mod SavedLaws
