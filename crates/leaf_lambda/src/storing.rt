@@ -29,8 +29,9 @@ fn write_run(g: &mut Segment, at: Addr, i: u32, run: &[u16])
         (record { owner = (chunk_at g.old at.place).owner; words = put_run (chunk_at g.old at.place).words i run.now }) }
     ensures room { SameRoom g.old g.new }
 {
+    let start = g.start();
     for k in 0..run.len() {
-        g.set_word(at, i + k as u32, run[k]);
+        g.set_word_from(start, at, i as usize + k, run[k]);
     }
 }
 

@@ -18,15 +18,16 @@ pub loop-k-preserved : goal.loop-k-preserved
 loop-k-preserved c =
     let f = chunk_at c.args.g.now in
     let g = chunk_at c.loop-k.g in
-    let h = chunk_at c.set_word.new.self in
+    let h = chunk_at c.set_word_from.new.self in
     let p = c.args.at.place in
     let w = get_or c.args.run.now c.loop-k.k 0 in
-    let words = run-words g h p (c.args.i + c.loop-k.k) w c.set_word.ensures.chunks in
+    let words = run-words g h p (c.args.i + c.loop-k.k) w c.set_word_from.ensures.chunks in
     let test = c.loop-k-test.true in
     record {
-      chunk = run-chunk f g h p (c.args.i + c.loop-k.k) w c.loop-k.invariant.chunk c.set_word.ensures.chunks;
+      start = c.set_word_from.ensures.start;
+      chunk = run-chunk f g h p (c.args.i + c.loop-k.k) w c.loop-k.invariant.chunk c.set_word_from.ensures.chunks;
       long = ap (λ (l : List ℕ). length l) words ∙ length-set (g p).words (c.args.i + c.loop-k.k) w ∙ c.loop-k.invariant.long;
-      room = Room-trans c.args.g.now c.loop-k.g c.set_word.new.self c.loop-k.invariant.room c.set_word.ensures.room;
+      room = Room-trans c.args.g.now c.loop-k.g c.set_word_from.new.self c.loop-k.invariant.room c.set_word_from.ensures.room;
       done = run-done (f p).words (g p).words (h p).words c.args.run.now c.args.i c.loop-k.k w c.requires.within c.loop-k.invariant.long (omega arith) (get_or_default c.args.run.now c.loop-k.k 0 w (omega arith)) words c.loop-k.invariant.done;
       rest = run-rest (f p).words (g p).words (h p).words c.args.i c.loop-k.k w words c.loop-k.invariant.rest;
     }
