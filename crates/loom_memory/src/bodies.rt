@@ -39,8 +39,9 @@ fn copy_words(g: &Segment, at: Addr, i: u32, out: &mut [u16])
     ensures run { (j : ℕ) → j < length out.old → slice_get out.new j ≡ slice_get (chunk_at g.now at.place).words (i + j) }
     ensures long { length out.new ≡ length out.old }
 {
+    let start = g.start();
     for k in 0..out.len() {
-        out[k] = g.word(at, i + k as u32);
+        out[k] = g.word_from(start, at, i as usize + k);
     }
 }
 
