@@ -31,7 +31,7 @@ value-told g c = λ told.
     let m = c.args.self.now in
     let at = c.in-Some-word_in_body.ensures.word in
     let odd : c.in-Some-word_in_body.value % 2 ≡ 1 = omega (arith, c.if-value-eq0.false) in
-    field-told (g.H.Host.tells Work) (core_of m.pager.levels.parts) (disk_of g.H.Host m.pager.levels.disk.host.now m.pager.levels.disk.rest) m.ledger.next c.word_of-w.result at.0 0 c.args.of c.args.i c.in-Some-word_in_body.value (loom_told g.H.Host m).regs told c.requires.kept.parts.core at.1 at.2 (ap (meant (core_of m.pager.levels.parts).entries [] 0) (sym c.word_of-w.ensures.word))
+    field-told (g.H.Host.tells Work) (core_of m.pager.levels.parts) (disk_of g.H.Host m.pager.levels.disk.host.now m.pager.levels.disk.rest) m.ledger.next c.word_of-w.result at.0 0 c.args.of c.args.i c.in-Some-word_in_body.value (loom_told g.H.Host m).regs told m.pager.levels.whole.parts.core at.1 at.2 (ap (meant (core_of m.pager.levels.parts).entries [] 0) (sym c.word_of-w.ensures.word))
     ∙ ap Some (meant-odd (core_of m.pager.levels.parts).entries [] 0 c.in-Some-word_in_body.value odd ∙ ap Int (sym c.int_short.ensures))
 
 pub returns-clause-number : goal.returns-clause-number
