@@ -12,10 +12,11 @@ const MASKS: [u8; 3] = [1, 128, 255];
 /// How many exit statuses there are.
 const CODES: usize = 14;
 
-/// How many runs came to each exit status.
+/// How many runs came to each exit status, and whether one of them came to another end of its machine than the case's.
 #[derive(Clone, Copy, Debug)]
 pub struct Tally {
     pub by_code: [u64; CODES],
+    noticed: bool,
 }
 
 impl Tally {
@@ -45,8 +46,8 @@ fn bounds_of(sizes: Sizes<'_>, steps: &str) -> Result<Bounds> {
 }
 
 /// Runs a case once with each mask for each number up to so many, by which read of Work lies, and once where none does. Past the last read none
-/// does either. It is refused where one of these runs
-/// comes to an answer that can't be, or the last one comes out wrong.
+/// does either. It is refused where one of these runs comes to an answer that can't be, or the last one comes out wrong; and where none of them
+/// comes to another end of its machine, since what is read of Work then doesn't matter to it.
 pub fn lie(alloc: Global, case: &Case<'_>, reads: u64) -> Result<Tally> {
     let bounds = bounds_of(case.sizes, case.steps)?;
     let (status, host) = run_lying(alloc, case, 0, 0)?;
@@ -55,6 +56,7 @@ pub fn lie(alloc: Global, case: &Case<'_>, reads: u64) -> Result<Tally> {
     }
     let mut tally = Tally {
         by_code: [0; CODES],
+        noticed: false,
     };
     for read in 0..reads {
         let nth = read.saturating_add(1);
@@ -64,9 +66,20 @@ pub fn lie(alloc: Global, case: &Case<'_>, reads: u64) -> Result<Tally> {
                 bail!("read {nth}, mask {mask}: {status:?}");
             }
             tally.count(status.code());
+            tally.noticed = tally.noticed || is_noticed(case, status, host.inner());
         }
     }
+    if !tally.noticed {
+        bail!("no read of Work matters to the machine");
+    }
     Ok(tally)
+}
+
+// Whether the image was found right, and the machine didn't come as far as the saving of its image, or came to another end than the case's.
+fn is_noticed(case: &Case<'_>, status: Status, host: &MemoryHost) -> bool {
+    !matches!(status, Status::ImageBad { .. })
+        && host.file(SAVED).is_none()
+        && !is_whole(case, status, host)
 }
 
 // A run of which the nth read of Work lies.
