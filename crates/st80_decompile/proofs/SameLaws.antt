@@ -1,5 +1,5 @@
 -- What holds of what was made of a tree holds of what is the same.
-use Rattle.std.proofs.Common.{◌≡◌, ℕ, List, sym, ◌∙◌}
+use Rattle.std.proofs.Common.{ℕ, List, sym, ◌∙◌}
 use Rattle.st80_tree.specs.declared.tree.Method.{Method}
 use Rattle.st80_compile.specs.declared.step.Step.{Step}
 use Rattle.st80_compile.specs.declared.compiler.Answers.{Answers}

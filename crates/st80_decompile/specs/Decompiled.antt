@@ -1,5 +1,5 @@
 -- What a tree has to do with code.
-use Rattle.std.specs.Prelude.{◌≡◌, Option, Some, None}
+use Rattle.std.specs.Prelude.{◌≡◌}
 use Rattle.st80_tree.specs.declared.tree.Method.{Method}
 use Rattle.st80_compile.specs.declared.compiler.Compiled.{Compiled}
 use Rattle.st80_compile.specs.Compiled.{answers_of, IsCompiled}

@@ -79,16 +79,6 @@ pub(crate) fn empty_part(alloc: Global) -> Part {
     }
 }
 
-pub(crate) fn nodes_of(alloc: Global, mut nodes: Vec<Node>) -> Result<Nodes, AllocError> {
-    let mut list = Nodes::End;
-    'each: while let Some(node) = nodes.pop() {
-        let node = Box::new(alloc, node)?;
-        let rest = Box::new(alloc, list)?;
-        list = Nodes::More(node, rest);
-    }
-    Ok(list)
-}
-
 /// Steps in order, before what stands behind them.
 pub(crate) fn steps_of(
     alloc: Global,
@@ -132,7 +122,7 @@ pub(crate) fn messages_of(
 }
 
 /// The one value on a stack.
-pub(crate) fn only_value(mut stack: Vec<Entry>) -> Result<Node, Halt> {
+fn only_value(mut stack: Vec<Entry>) -> Result<Node, Halt> {
     match (stack.pop(), stack.pop()) {
         (Some(Entry::Value(node)), None) => Ok(node),
         _ => Err(Halt::NoTree),

@@ -1,7 +1,7 @@
 // Instructions as trees, from the first to the last.
 use crate::frames::{
-    Ending, Entry, Frame, Kind, Part, Sent, empty_part, ending_of, messages_of, nodes_of,
-    only_value, statements_of, valued_statements,
+    Ending, Entry, Frame, Kind, Part, Sent, empty_part, ending_of, messages_of, statements_of,
+    valued_statements,
 };
 use crate::stop::Halt;
 use st80_compile::{Op, Place};

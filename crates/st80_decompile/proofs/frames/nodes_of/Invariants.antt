@@ -1,5 +1,0 @@
-use Rattle.std.proofs.Common.{vec_len}
-use Rattle.st80_decompile.proofs.frames.nodes_of.Given as goal
-
-abbrev pub decreases-each : goal.decreases-each
-decreases-each l = vec_len l.nodes
