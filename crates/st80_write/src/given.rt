@@ -3,6 +3,7 @@ use crate::stop::Stop;
 use long_names::{Name, Value, Values};
 use st80_code::{Instruction, code_of, lines};
 use st80_compile::{Answers, Compiled};
+use st80_objects::item_of;
 use st80_tree::{FIRST_INTEGER, INTEGERS};
 use st80_view::{MethodHeader, View};
 use std::alloc::{AllocError, Global};
@@ -12,8 +13,8 @@ const FIRST_LITERAL: u32 = FIRST_INTEGER + INTEGERS;
 
 /// The number in a pool of a literal: that of an integer, or one by its place.
 fn number_of(literals: &Values, i: usize) -> u32 {
-    match literals.item(i) {
-        Value::Int(n) if 0 <= *n && *n < 32 => FIRST_INTEGER + (*n as u32),
+    match item_of(literals, i) {
+        Some(Value::Int(n)) if 0 <= n && n < 32 => FIRST_INTEGER + (n as u32),
         _ => FIRST_LITERAL.saturating_add(u32::try_from(i).unwrap_or(0)),
     }
 }
@@ -27,11 +28,12 @@ pub(crate) fn literal_of(literals: &Values, number: u32) -> Option<Value> {
         return Some(Value::Int((number - FIRST_INTEGER) as i16));
     }
     let i = usize::try_from(number - FIRST_LITERAL).ok()?;
-    if i < literals.len() {
-        Some(*literals.item(i))
-    } else {
-        None
-    }
+    item_of(literals, i)
+}
+
+/// The name that a literal of a number is, if it is one.
+pub(crate) fn literal_name(literals: &Values, number: u32) -> Option<Name> {
+    literal_of(literals, number)?.name()
 }
 
 fn numbers_of(alloc: Global, literals: &Values, count: usize) -> Result<Vec<u32>, AllocError> {

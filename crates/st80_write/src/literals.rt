@@ -1,6 +1,6 @@
 // Literals as source.
 use crate::stop::Stop;
-use long_names::{Body, Name, Rec, Value};
+use long_names::{Body, Name, Rec, Value, Values};
 use st80_objects::{item_of, put_large};
 use st80_view::View;
 
@@ -86,34 +86,49 @@ fn put_character(out: &mut String, code: Option<Value>) -> Result<(), Stop> {
     }
 }
 
-/// Puts the object that a literal is, in arrays up to a depth.
-fn put_object(out: &mut String, view: &View, name: Name, depth: usize) -> Result<(), Stop> {
+/// The items of an array.
+fn array_of<'v>(view: &'v View, name: Name) -> Option<&'v Values> {
+    let rec = view.image().find(name)?;
+    match &rec.body {
+        Body::Pointers(values) if rec.class == Name::ARRAY => Some(values),
+        _ => None,
+    }
+}
+
+/// Puts the object that a literal is, which is no array.
+fn put_object(out: &mut String, view: &View, name: Name) -> Result<(), Stop> {
     let rec = view.image().find(name).ok_or(Stop::NoSource)?;
     match &rec.body {
         Body::Bytes(octets) => put_bytes(out, view, rec, octets.bytes()),
         Body::Pointers(values) if rec.class == Name::CHARACTER => {
             put_character(out, item_of(values, 0))
         }
-        Body::Pointers(values) if rec.class == Name::ARRAY && depth > 0 => {
-            out.push_str(if depth == MOST_NESTED { "#(" } else { "(" })?;
-            for i in 0..values.len() {
-                if i > 0 {
-                    out.push(' ')?;
-                }
-                put_value(out, view, *values.item(i), depth - 1)?;
-            }
-            out.push(')')?;
-            Ok(())
-        }
         Body::Pointers(_) | Body::Words(_) | Body::Method { .. } => Err(Stop::NoSource),
     }
 }
 
+/// Puts a value, in arrays up to a depth.
 fn put_value(out: &mut String, view: &View, value: Value, depth: usize) -> Result<(), Stop> {
-    match value {
-        Value::Int(n) => Ok(write!(out, "{n}")?),
-        Value::Ref(name) => put_object(out, view, name, depth),
+    let name = match value {
+        Value::Int(n) => return Ok(write!(out, "{n}")?),
+        Value::Ref(name) => name,
+    };
+    let Some(values) = array_of(view, name) else {
+        return put_object(out, view, name);
+    };
+    if depth == 0 {
+        return Err(Stop::NoSource);
     }
+    let within = depth - 1;
+    out.push_str(if depth == MOST_NESTED { "#(" } else { "(" })?;
+    for i in 0..values.len() {
+        if i > 0 {
+            out.push(' ')?;
+        }
+        put_value(out, view, *values.item(i), within)?;
+    }
+    out.push(')')?;
+    Ok(())
 }
 
 /// Puts a literal as it is written.

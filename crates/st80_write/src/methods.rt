@@ -4,7 +4,7 @@ use crate::given::given_of;
 use crate::literals::{is_spelled, put_text};
 use crate::stop::Stop;
 use crate::writer::{Names, is_keyword, next_word, put_declared, put_line, put_temporary};
-use long_names::{Name, Value};
+use long_names::Name;
 use st80_code::code_of;
 use st80_decompile::decompile;
 use st80_tree::Method;
@@ -67,9 +67,7 @@ fn put_tree(
 
 fn put_all(alloc: Global, out: &mut String, view: &View, method: Name) -> Result<(), Stop> {
     let home = view.method_home(method).ok_or(Stop::NoSource)?;
-    let Value::Ref(selector) = home.selector else {
-        return Err(Stop::NoSource);
-    };
+    let selector = home.selector.name().ok_or(Stop::NoSource)?;
     let text = view.selector_text(selector).ok_or(Stop::NoSource)?;
     let (literals, _) = code_of(view, method).ok_or(Stop::NoSource)?;
     let given = given_of(alloc, view, method)?;

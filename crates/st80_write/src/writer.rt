@@ -1,9 +1,9 @@
 // Trees as source.
 use crate::blocks::{Arguments, is_argument};
-use crate::given::literal_of;
+use crate::given::{literal_name, literal_of};
 use crate::literals::{is_spelled, put_literal, put_text};
 use crate::stop::Stop;
-use long_names::{Value, Values};
+use long_names::Values;
 use st80_tree::{Constant, Messages, Node, Nodes, Statements, Variable, name_of};
 use st80_view::View;
 
@@ -125,9 +125,7 @@ impl<'v> Names<'v> {
         if let Some(word) = name_of(number) {
             return Ok(word.as_bytes());
         }
-        let Some(Value::Ref(name)) = literal_of(self.literals, number) else {
-            return Err(Stop::NoSource);
-        };
+        let name = literal_name(self.literals, number).ok_or(Stop::NoSource)?;
         let text = self.view.selector_text(name).ok_or(Stop::NoSource)?;
         if is_spelled(text) {
             Ok(text)
@@ -137,12 +135,12 @@ impl<'v> Names<'v> {
     }
 
     fn put_shared(&self, out: &mut String, number: u32) -> Result<(), Stop> {
-        let Some(Value::Ref(association)) = literal_of(self.literals, number) else {
-            return Err(Stop::NoSource);
-        };
-        let Some(Value::Ref(key)) = self.view.image().field(association, 0) else {
-            return Err(Stop::NoSource);
-        };
+        let association = literal_name(self.literals, number).ok_or(Stop::NoSource)?;
+        let key = self
+            .view
+            .image()
+            .name_in(association, 0)
+            .ok_or(Stop::NoSource)?;
         let text = self.view.selector_text(key).ok_or(Stop::NoSource)?;
         if !is_spelled(text) || !is_unary(text) {
             return Err(Stop::NoSource);
