@@ -26,15 +26,15 @@ returns-then-is_large-clause-serves g c =
     try_large _ c.args.index (sym c.is_control.ensures ∙ c.if-is_control.false) (sym c.is_process.ensures ∙ c.if-is_process.false)
     (sym c.is_blit.ensures ∙ c.if-is_blit.false) (sym c.is_device.ensures ∙ c.if-is_device.false) (sym c.is_large.ensures ∙ c.if-is_large.true) c.run-then-is_large.ensures.serves
 
-pub returns-then-index-lt60-clause-serves : goal.returns-then-index-lt60-clause-serves
-returns-then-index-lt60-clause-serves g c =
+pub returns-then-index-lt-PRIMITIVE_AT-clause-serves : goal.returns-then-index-lt-PRIMITIVE_AT-clause-serves
+returns-then-index-lt-PRIMITIVE_AT-clause-serves g c =
     try_integer _ c.args.index (sym c.is_control.ensures ∙ c.if-is_control.false) (sym c.is_process.ensures ∙ c.if-is_process.false)
-    (sym c.is_blit.ensures ∙ c.if-is_blit.false) (sym c.is_device.ensures ∙ c.if-is_device.false) (sym c.is_large.ensures ∙ c.if-is_large.false) c.if-index-lt60.true c.run-then-index-lt60.ensures.serves
+    (sym c.is_blit.ensures ∙ c.if-is_blit.false) (sym c.is_device.ensures ∙ c.if-is_device.false) (sym c.is_large.ensures ∙ c.if-is_large.false) c.if-index-lt-PRIMITIVE_AT.true c.run-then-index-lt-PRIMITIVE_AT.ensures.serves
 
-pub returns-else-index-lt60-clause-serves : goal.returns-else-index-lt60-clause-serves
-returns-else-index-lt60-clause-serves g c =
+pub returns-else-index-lt-PRIMITIVE_AT-clause-serves : goal.returns-else-index-lt-PRIMITIVE_AT-clause-serves
+returns-else-index-lt-PRIMITIVE_AT-clause-serves g c =
     try_object _ c.args.index (sym c.is_control.ensures ∙ c.if-is_control.false) (sym c.is_process.ensures ∙ c.if-is_process.false)
-    (sym c.is_blit.ensures ∙ c.if-is_blit.false) (sym c.is_device.ensures ∙ c.if-is_device.false) (sym c.is_large.ensures ∙ c.if-is_large.false) c.if-index-lt60.false c.run-else-index-lt60.ensures.serves
+    (sym c.is_blit.ensures ∙ c.if-is_blit.false) (sym c.is_device.ensures ∙ c.if-is_device.false) (sym c.is_large.ensures ∙ c.if-is_large.false) c.if-index-lt-PRIMITIVE_AT.false c.run-else-index-lt-PRIMITIVE_AT.ensures.serves
 
 pub returns-then-is_control-clause-keeps : goal.returns-then-is_control-clause-keeps
 returns-then-is_control-clause-keeps g c = keeps_never _ _ c.run.ensures.never_keeps
@@ -48,8 +48,8 @@ returns-then-is_blit-clause-keeps g c = keeps_never _ _ c.run-then-is_blit.ensur
 pub returns-then-is_large-clause-keeps : goal.returns-then-is_large-clause-keeps
 returns-then-is_large-clause-keeps g c = keeps_never _ _ c.run-then-is_large.ensures.never_keeps
 
-pub returns-then-index-lt60-clause-keeps : goal.returns-then-index-lt60-clause-keeps
-returns-then-index-lt60-clause-keeps g c = keeps_never _ _ c.run-then-index-lt60.ensures.never_keeps
+pub returns-then-index-lt-PRIMITIVE_AT-clause-keeps : goal.returns-then-index-lt-PRIMITIVE_AT-clause-keeps
+returns-then-index-lt-PRIMITIVE_AT-clause-keeps g c = keeps_never _ _ c.run-then-index-lt-PRIMITIVE_AT.ensures.never_keeps
 
-pub returns-else-index-lt60-clause-keeps : goal.returns-else-index-lt60-clause-keeps
-returns-else-index-lt60-clause-keeps g c = keeps_never _ _ c.run-else-index-lt60.ensures.never_keeps
+pub returns-else-index-lt-PRIMITIVE_AT-clause-keeps : goal.returns-else-index-lt-PRIMITIVE_AT-clause-keeps
+returns-else-index-lt-PRIMITIVE_AT-clause-keeps g c = keeps_never _ _ c.run-else-index-lt-PRIMITIVE_AT.ensures.never_keeps
