@@ -1,5 +1,5 @@
 -- What each call on a role leaves of what is kept.
-use Rattle.std.proofs.Common.{◌≡◌, ◌≢◌, ℕ, List, ◌++◌, Bool, true, false, Option, None, Some, Result, Ok, Err, IfOk, OnErr, refl, sym, ap, ◌∙◌, subst, string_bytes, take}
+use Rattle.std.proofs.Common.{◌≡◌, ◌≢◌, ℕ, List, ◌++◌, Bool, true, false, Option, None, Some, Result, Ok, Err, OnErr, refl, sym, ap, ◌∙◌, subst, string_bytes, take}
 use Rattle.file_system.specs.World.{Entry, Moments, World, put_at}
 use Rattle.file_system.specs.Calls.{is_in_order}
 use Rattle.file_system.specs.declared.system.Way.{Way}
@@ -8,7 +8,6 @@ use Rattle.file_saving.specs.Saving.{IsUnfinished, KeepsUses, KeepsPutBut}
 use Rattle.file_saving.specs.declared.saving.Saving.{Saving}
 use Rattle.file_roles.specs.Open.{Each, IsOpened, Leaves, Writes, is_of, not_of, whatever}
 use Rattle.file_roles.specs.declared.files.Used.{Used}
-use Rattle.file_roles.specs.declared.table.Beside.{Beside}
 use Rattle.file_roles.specs.declared.table.Table.{Table}
 use Rattle.loom_host.specs.Outside.{at_start, puts}
 use Rattle.loom_host.specs.declared.outside.Role.{Role}
@@ -158,17 +157,3 @@ roles-new b t w attaches name descriptor ended Saved = saved-new b t w attaches 
 roles-new b t w attaches name descriptor ended Display = refl
 roles-new b t w attaches name descriptor ended Transcript = refl
 roles-new b t w attaches name descriptor ended Notes = refl
-
--- ---- the file that is kept
-
-or-list : List ℕ → Option (List ℕ) → List ℕ
-or-list xs None = xs
-or-list xs (Some ys) = ys
-
-pub some-list : (xs ys : List ℕ) → Some xs ≡ Some ys → xs ≡ ys
-unfolding or-list
-some-list xs ys is = ap (or-list xs) is
-
-pub kept-then : {E : Type 0} (r : Result Beside E) (k : Option ℕ) (i : ℕ) → IfOk r (λ b. b.kept ≡ k) → k ≡ Some i → IfOk r (λ b. b.kept ≡ Some i)
-kept-then (Ok b) k i is same = is ∙ same
-kept-then (Err x) k i is same = is

@@ -1,4 +1,3 @@
 pub mod Faults
 pub mod Told
 pub mod Stands
-pub mod Kept

@@ -1,15 +1,12 @@
 // A host over the files of a system. Saved is told; each other role is done, and nothing is told of it.
-ghost use Rattle.std.specs.Prelude.{◌≡◌, ◌≢◌, ◌≤◌, ◌<◌, ℕ, Bool, List, Option, Some, None, true, IsTrue, IfOk, OnOk, OnErr, length, take, string_bytes};
-ghost use Rattle.file_system.specs.World.{Entry, Moments, Throughout, all, put_at};
+ghost use Rattle.std.specs.Prelude.{◌≡◌, ◌≢◌, ◌≤◌, ◌<◌, ℕ, List, Some, None, IsTrue, IfOk, OnOk, OnErr, length, take, string_bytes};
+ghost use Rattle.file_system.specs.World.{Entry, Throughout, all, put_at};
 ghost use Rattle.file_system.specs.declared.system.Way.TheVariants.{Stream};
 ghost use Rattle.file_saving.specs.Saving.{IsMovedForGood, IsStillOrMoved, KeepsName, use_at};
 ghost use Rattle.loom_host.specs.Outside.{Attached, HasCause, IsFresh, SameBut, at_start, ends, puts};
 ghost use Rattle.loom_host.specs.declared.outside.Role.{Role};
 ghost use Rattle.long_names.specs.Counting.{counted};
-ghost use Rattle.file_roles.specs.Open.{Each};
-ghost use Rattle.file_roles.specs.Share.{IsNoInput, IsNoted, expected_at};
 ghost use Rattle.file_host.specs.Faults.{faults_at};
-ghost use Rattle.file_host.specs.Kept.{LeadsTo, path_in};
 ghost use Rattle.file_host.specs.Stands.{Stands};
 ghost use Rattle.file_host.specs.Told.{role_state, saved_if, saved_state, tells_saved};
 
@@ -20,21 +17,9 @@ use file_roles::{
     read_whole, take_some, write_whole,
 };
 use file_saving::{Saving, discard, finish, give_up_for, write};
-use file_system::{ERRORS, Found, Kind, OUTPUT, Refusal, System, Way};
+use file_system::{ERRORS, Found, OUTPUT, Refusal, System, Way};
 use loom_host::{Failed, Host, Role};
 use std::alloc::{AllocError, Global};
-
-/// What a host over files keeps: the files and their moments, whether Saved may replace neither Image nor Events, the name of a file that no role is
-/// written to, and the files that roles will have.
-pub trait OverFiles {
-    ghost moments: { Self → Moments };
-
-    ghost keeps: { Self → Bool };
-
-    ghost kept: { Self → Option (List ℕ) };
-
-    ghost expected: { Self → Role → Option ℕ };
-}
 
 /// A host over the files of a system. Saved is written beside the file of its name, and has that name once it is ended.
 #[derive(Drop)]
@@ -64,8 +49,8 @@ fn named<S: System>(system: &mut S, path: &str) -> Option<u128>
     }
 }
 
-// Which file is behind the link that has this name.
-fn linked<S: System>(system: &mut S, path: &str) -> Result<Option<u128>, Refusal>
+// Which file has this name now, or is behind the link that has it.
+fn behind<S: System>(system: &mut S, path: &str) -> Result<Option<u128>, Refusal>
     ensures still { IsTrue S.tells → S.moments system.new ≡ S.moments system.old }
 {
     match system.look(path, true) {
@@ -73,23 +58,6 @@ fn linked<S: System>(system: &mut S, path: &str) -> Result<Option<u128>, Refusal
         Err(Refusal::Missing) => Ok(None),
         Err(refusal) => Err(refusal),
     }
-}
-
-// Which file has this name now, or is behind the link that has it.
-fn behind<S: System>(system: &mut S, path: &str) -> Result<Option<u128>, Refusal>
-    ensures still { IsTrue S.tells → S.moments system.new ≡ S.moments system.old }
-    ensures found { IsTrue S.tells → (i : ℕ) → LeadsTo (S.entry path.now) i (S.moments system.old).now → IfOk result (λ f. f ≡ Some i) }
-{
-    match system.look(path, false) {
-        Ok(found) => {
-            if found.kind != Kind::Link {
-                return Ok(Some(found.file));
-            }
-        }
-        Err(Refusal::Missing) => return Ok(None),
-        Err(refusal) => return Err(refusal),
-    }
-    linked(system, path)
 }
 
 // The files of Saved while it isn't ended, and those that roles may not have. The one that is kept is there, or this fails.
@@ -101,35 +69,11 @@ fn beside<S: System>(
 ) -> Result<Beside, Refusal>
     ensures still { IsTrue S.tells → S.moments system.new ≡ S.moments system.old }
     ensures saving { (s : Saving) → saving.now ≡ Some s → IfOk result (λ b. b.saving ≡ Some s.file) }
-    ensures kept { IsTrue S.tells → (path : List ℕ) (i : ℕ) → path_in kept.now ≡ Some path → LeadsTo (S.entry path) i (S.moments system.old).now → IfOk result (λ b. b.kept ≡ Some i) }
-    ensures expected { IfOk result (λ b. b.expected ≡ expected.now) }
 {
-    let kept = kept_file(system, kept)?;
-    rest_beside(system, saving, kept, expected)
-}
-
-// The file of the name that is kept, where one is.
-fn kept_file<S: System>(system: &mut S, kept: &Option<String>) -> Result<Option<u128>, Refusal>
-    ensures still { IsTrue S.tells → S.moments system.new ≡ S.moments system.old }
-    ensures kept { IsTrue S.tells → (path : List ℕ) (i : ℕ) → path_in kept.now ≡ Some path → LeadsTo (S.entry path) i (S.moments system.old).now → IfOk result (λ f. f ≡ Some i) }
-{
-    match kept {
-        Some(path) => behind(system, path.as_str()),
-        None => Ok(None),
-    }
-}
-
-fn rest_beside<S: System>(
-    system: &mut S,
-    saving: &Option<Saving>,
-    kept: Option<u128>,
-    expected: &Expected,
-) -> Result<Beside, Refusal>
-    ensures still { IsTrue S.tells → S.moments system.new ≡ S.moments system.old }
-    ensures saving { (s : Saving) → saving.now ≡ Some s → IfOk result (λ b. b.saving ≡ Some s.file) }
-    ensures kept { IfOk result (λ b. b.kept ≡ kept) }
-    ensures expected { IfOk result (λ b. b.expected ≡ expected.now) }
-{
+    let kept = match kept {
+        Some(path) => behind(system, path.as_str())?,
+        None => None,
+    };
     let (saving, named) = match saving {
         Some(saving) => (Some(saving.file), named(system, saving.path.as_str())),
         None => (None, None),
@@ -202,28 +146,20 @@ impl<S: System> FileHost<S> {
         ensures roles { (r : Role) → ⟦<FileHost<S> as Host>⟧.roles self.new r ≡ ⟦<FileHost<S> as Host>⟧.roles self.old r }
         ensures faults { (r : Role) → ⟦<FileHost<S> as Host>⟧.faults self.new r ≡ ⟦<FileHost<S> as Host>⟧.faults self.old r }
         ensures writes { ⟦<FileHost<S> as Host>⟧.writes self.new ≡ ⟦<FileHost<S> as Host>⟧.writes self.old }
-        ensures keeps { ⟦<FileHost<S> as OverFiles>⟧.keeps self.new ≡ true }
-        ensures kept { ⟦<FileHost<S> as OverFiles>⟧.kept self.new ≡ ⟦<FileHost<S> as OverFiles>⟧.kept self.old }
-        ensures expected { (r : Role) → ⟦<FileHost<S> as OverFiles>⟧.expected self.new r ≡ ⟦<FileHost<S> as OverFiles>⟧.expected self.old r }
     {
         self.keeps_inputs = true;
     }
 
     /// Tells by which name a role will be attached: from then on the attach of Work fails where its file is this one, by whatever name, and
-    /// leaves it as it is. A name that no file has yet tells nothing. Where it can't be looked up this fails, and nothing is told.
-    pub fn expect(&mut self, role: Role, name: &str) -> Result<(), Refusal>
+    /// leaves it as it is. A name that no file has yet tells nothing.
+    pub fn expect(&mut self, role: Role, name: &str)
         ensures roles { (r : Role) → ⟦<FileHost<S> as Host>⟧.roles self.new r ≡ ⟦<FileHost<S> as Host>⟧.roles self.old r }
         ensures faults { (r : Role) → ⟦<FileHost<S> as Host>⟧.faults self.new r ≡ ⟦<FileHost<S> as Host>⟧.faults self.old r }
         ensures writes { ⟦<FileHost<S> as Host>⟧.writes self.new ≡ ⟦<FileHost<S> as Host>⟧.writes self.old }
-        ensures noted { IsTrue S.tells → (i : ℕ) → LeadsTo (S.entry name.now) i (⟦<FileHost<S> as OverFiles>⟧.moments self.old).now → OnOk result (IsNoted role (Some i) (⟦<FileHost<S> as OverFiles>⟧.expected self.new role)) }
-        ensures still { IsTrue S.tells → ⟦<FileHost<S> as OverFiles>⟧.moments self.new ≡ ⟦<FileHost<S> as OverFiles>⟧.moments self.old }
-        ensures expected { SameBut role (⟦<FileHost<S> as OverFiles>⟧.expected self.old) (⟦<FileHost<S> as OverFiles>⟧.expected self.new) }
-        ensures kept { ⟦<FileHost<S> as OverFiles>⟧.kept self.new ≡ ⟦<FileHost<S> as OverFiles>⟧.kept self.old }
-        ensures keeps { ⟦<FileHost<S> as OverFiles>⟧.keeps self.new ≡ ⟦<FileHost<S> as OverFiles>⟧.keeps self.old }
     {
-        let file = behind(&mut self.system, name)?;
-        self.expected.note(role, file);
-        Ok(())
+        if let Ok(file) = behind(&mut self.system, name) {
+            self.expected.note(role, file);
+        }
     }
 
     /// From then on the attach of a role that is written fails where its file is the one that has this name at that time, and leaves it as
@@ -232,9 +168,6 @@ impl<S: System> FileHost<S> {
         ensures roles { (r : Role) → ⟦<FileHost<S> as Host>⟧.roles self.new r ≡ ⟦<FileHost<S> as Host>⟧.roles self.old r }
         ensures faults { (r : Role) → ⟦<FileHost<S> as Host>⟧.faults self.new r ≡ ⟦<FileHost<S> as Host>⟧.faults self.old r }
         ensures writes { ⟦<FileHost<S> as Host>⟧.writes self.new ≡ ⟦<FileHost<S> as Host>⟧.writes self.old }
-        ensures kept { OnOk result (⟦<FileHost<S> as OverFiles>⟧.kept self.new ≡ Some name.now) }
-        ensures expected { (r : Role) → ⟦<FileHost<S> as OverFiles>⟧.expected self.new r ≡ ⟦<FileHost<S> as OverFiles>⟧.expected self.old r }
-        ensures keeps { ⟦<FileHost<S> as OverFiles>⟧.keeps self.new ≡ ⟦<FileHost<S> as OverFiles>⟧.keeps self.old }
     {
         self.kept = Some(String::from_str(self.alloc, name)?);
         Ok(())
@@ -412,9 +345,6 @@ impl<S: System> FileHost<S> {
         ensures other_faults { SameBut Role.Work (faults_at self.old.faults) (faults_at self.new.faults) }
         ensures writes { self.new.writes ≡ self.old.writes }
         ensures cause { HasCause (faults_at self.old.faults Role.Work) (faults_at self.new.faults Role.Work) result }
-        ensures kept { IsTrue S.tells → (path : List ℕ) (i : ℕ) → path_in self.old.kept ≡ Some path → LeadsTo (S.entry path) i (S.moments self.old.system).now → OnOk result (Each (λ u. u.found.file ≢ i) self.new.table.work) }
-        ensures inputs { OnOk result (Each (λ u. IsNoInput self.old.table u.found.file) self.new.table.work) }
-        ensures expected { (r : Role) (i : ℕ) → expected_at self.old.expected r ≡ Some i → OnOk result (Each (λ u. u.found.file ≢ i) self.new.table.work) }
     {
         let Ok(beside) = beside(&mut self.system, &self.saving, &self.kept, &self.expected) else {
             return self.faults.fail(Role::Work);
@@ -441,8 +371,6 @@ impl<S: System> FileHost<S> {
         ensures other_faults { SameBut Role.Display (faults_at self.old.faults) (faults_at self.new.faults) }
         ensures writes { self.new.writes ≡ self.old.writes }
         ensures cause { HasCause (faults_at self.old.faults Role.Display) (faults_at self.new.faults Role.Display) result }
-        ensures kept { IsTrue S.tells → (path : List ℕ) (i : ℕ) → path_in self.old.kept ≡ Some path → LeadsTo (S.entry path) i (S.moments self.old.system).now → OnOk result (Each (λ u. u.found.file ≢ i) self.new.table.display) }
-        ensures inputs { OnOk result (Each (λ u. IsNoInput self.old.table u.found.file) self.new.table.display) }
     {
         let Ok(beside) = beside(&mut self.system, &self.saving, &self.kept, &self.expected) else {
             return self.faults.fail(Role::Display);
@@ -562,16 +490,6 @@ impl<S: System> FileHost<S> {
             }
         }
     }
-}
-
-impl<S: System> OverFiles for FileHost<S> {
-    ghost moments = { λ h. S.moments h.system };
-
-    ghost keeps = { λ h. h.keeps_inputs };
-
-    ghost kept = { λ h. path_in h.kept };
-
-    ghost expected = { λ h. expected_at h.expected };
 }
 
 impl<S: System> Host for FileHost<S> {

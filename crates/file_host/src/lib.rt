@@ -17,7 +17,6 @@
 //! - Proved: It meets every clause of `Host`, over every system. Over one that tells, Saved while it isn't ended is an unfinished file with all
 //!   bytes that were put, and no other role is written through its descriptor or to its file (`stands`); the attach and the writing of Saved
 //!   leave the file of its name as it is at each moment, and its end leaves the old one or the whole new one (`keeps`, `moves`).
-//!   `keep_inputs`, `expect` and `protect` keep what they are given, and an attach of Work or Display has no file that is kept or read.
 //! - Tested: A host over the system in memory, and one over real files (`file_tests`).
 //! - Not said: What the files of the other roles hold. Saved is refused where no file can be made beside it, as for a device.
 #![tactic(auto)]
@@ -26,4 +25,4 @@ mod faults;
 mod host;
 mod told;
 
-pub use host::{FileHost, OverFiles};
+pub use host::FileHost;

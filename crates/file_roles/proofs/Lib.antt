@@ -1,4 +1,2 @@
-pub mod LeftLaws
 pub mod OpenLaws
-pub mod PieceLaws
 pub mod SavedLaws

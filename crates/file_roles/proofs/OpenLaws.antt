@@ -7,7 +7,6 @@ use Rattle.file_system.specs.Calls.{Appends, Changes, ChangesBy, Closes, Does, F
 use Rattle.file_system.specs.declared.system.Way.{Way}
 use Rattle.file_system.specs.declared.system.Way.TheVariants.{Append, Place, Read}
 use Rattle.file_saving.specs.Saving.{IsUnfinished, KeepsPut, KeepsPutBut, Use, being_written, use_at, use_of}
-use Rattle.file_saving.specs.Opened.{LeavesOpen, any, live_in}
 use Rattle.file_saving.proofs.PutLaws.{opened-puts, puts-closed, puts-else, puts-found, puts-made, puts-same, puts-then}
 use Rattle.file_roles.specs.Open.{HasUse, IsOpened, Leaves, Puts, Writes, not_of, not_through, use_in}
 use Rattle.file_roles.specs.declared.files.Used.{Used}
@@ -170,16 +169,14 @@ leaves-synced u old new (Err x) used ok err =
 
 -- ---- what was opened
 
-pub takes-opened : (u : Used) (old new : Moments) → Takes u.descriptor u.found.file (Some u.way) old.now new.now → (new.now.files u.found.file).kind ≡ u.found.kind → IsOpened u old new
-takes-opened u old new t kind = record { free = t.free; used = ap (option_map use_of) t.opened; live = ap live_in t.opened; kind = kind; empty = ap put_in t.opened }
+pub takes-opened : (u : Used) (old new : Moments) → Takes u.descriptor u.found.file (Some u.way) old.now new.now → IsOpened u old new
+takes-opened u old new t = record { free = t.free; used = ap (option_map use_of) t.opened; empty = ap put_in t.opened }
 
-pub opened-later : (P : ℕ → ℕ → Type 0) (T F : ℕ → Type 0) (u : Used) (a b c : Moments) → IsOpened u a b → Leaves P b c → LeavesOpen any T F b c → IsOpened u a c
-opened-later P T F u a b c o leaves left =
-    let s = left.still u.descriptor (use_in u) o.used o.live tt in
-    record { free = o.free; used = s.used; live = s.live; kind = s.kind ∙ o.kind; empty = leaves.puts.is u.descriptor ∙ o.empty }
+pub opened-later : (P : ℕ → ℕ → Type 0) (u : Used) (a b c : Moments) → IsOpened u a b → Leaves P b c → IsOpened u a c
+opened-later P u a b c o leaves = record { free = o.free; used = leaves.puts.uses u.descriptor (use_in u) o.used; empty = leaves.puts.is u.descriptor ∙ o.empty }
 
 pub opened-before : (u : Used) (a b c : Moments) → b ≡ a → IsOpened u b c → IsOpened u a c
-opened-before u a b c same o = record { free = ap (λ (m : Moments). m.now.opened u.descriptor) (sym same) ∙ o.free; used = o.used; live = o.live; kind = o.kind; empty = o.empty }
+opened-before u a b c same o = record { free = ap (λ (m : Moments). m.now.opened u.descriptor) (sym same) ∙ o.free; used = o.used; empty = o.empty }
 
 pub leaves-before : (P : ℕ → ℕ → Type 0) (a b c : Moments) → b ≡ a → Leaves P b c → Leaves P a c
 leaves-before P a b c same leaves = subst (λ (m : Moments). Leaves P m c) same leaves
@@ -289,7 +286,7 @@ earlier-free None y keeps free = refl
 earlier-free (Some o) y keeps free = absurd (none-some (use_of o) (sym (ap (option_map use_of) free) ∙ keeps (use_of o) refl))
 
 opened-earlier : (u : Used) (a b c : Moments) → KeepsPut a b → IsOpened u b c → IsOpened u a c
-opened-earlier u a b c keeps o = record { free = earlier-free (a.now.opened u.descriptor) (b.now.opened u.descriptor) (keeps.uses u.descriptor) o.free; used = o.used; live = o.live; kind = o.kind; empty = o.empty }
+opened-earlier u a b c keeps o = record { free = earlier-free (a.now.opened u.descriptor) (b.now.opened u.descriptor) (keeps.uses u.descriptor) o.free; used = o.used; empty = o.empty }
 
 pub opened-earlier-ok : {E : Type 0} (a b c : Moments) (r : Result Used E) → KeepsPut a b → IfOk r (λ u. IsOpened u b c) → IfOk r (λ u. IsOpened u a c)
 opened-earlier-ok a b c (Ok u) keeps opened = opened-earlier u a b c keeps opened

@@ -1,8 +1,6 @@
 -- What is open for the roles, and what calls on it leave alone.
-use Rattle.std.specs.Prelude.{◌≡◌, ◌≢◌, ◌≤◌, ℕ, true, false, List, [], ◌++◌, length, take, drop, Option, None, Some}
-use Rattle.file_system.specs.World.{Entry, Opening, World, Moments, left_of, put_at, taken_of}
-use Rattle.file_system.specs.declared.system.Kind.TheVariants.{Regular}
-use Rattle.file_saving.specs.Opened.{is_live}
+use Rattle.std.specs.Prelude.{◌≡◌, ◌≢◌, ℕ, List, [], ◌++◌, Option, None, Some}
+use Rattle.file_system.specs.World.{Entry, World, Moments, put_at}
 use Rattle.file_saving.specs.Saving.{IsUnfinished, KeepsPut, KeepsPutBut, Use, use_at}
 use Rattle.file_roles.specs.declared.files.Used.{Used}
 use Rattle.file_roles.specs.declared.table.Table.{Table}
@@ -19,45 +17,7 @@ HasUse u w = use_at u.descriptor w ≡ Some (use_in u)
 pub record IsOpened (u : Used) (old new : Moments) : Type 0 where
   pub free : old.now.opened u.descriptor ≡ None
   pub used : HasUse u new.now
-  pub live : is_live u.descriptor new.now ≡ true
-  pub kind : (new.now.files u.found.file).kind ≡ u.found.kind
   pub empty : put_at u.descriptor new.now ≡ []
-
--- ---- reads in order
-
-abbrev pub taken_in : Option Opening → World → List ℕ
-taken_in None w = []
-taken_in (Some o) w = taken_of o w
-
--- what was taken through a descriptor, and what is left
-abbrev pub taken_at : ℕ → World → List ℕ
-taken_at d w = taken_in (w.opened d) w
-
-abbrev pub left_in : Option Opening → World → List ℕ
-left_in None w = []
-left_in (Some o) w = left_of o w
-
-abbrev pub left_at : ℕ → World → List ℕ
-left_at d w = left_in (w.opened d) w
-
--- nothing was taken, and of a regular file all bytes are left
-pub record IsAtStart (u : Used) (w : World) : Type 0 where
-  pub taken : taken_at u.descriptor w ≡ []
-  pub left : u.found.kind ≡ Regular → left_at u.descriptor w ≡ (w.files u.found.file).bytes
-
--- n bytes were taken through it, and stand at the front of the buffer
-pub record Gives (d n : ℕ) (buf : List ℕ) (old new : Moments) : Type 0 where
-  pub enough : n ≤ length (left_at d old.now)
-  pub bytes : take n buf ≡ take n (left_at d old.now)
-  pub taken : taken_at d new.now ≡ taken_at d old.now ++ take n (left_at d old.now)
-  pub left : left_at d new.now ≡ drop n (left_at d old.now)
-
--- a file is empty, and stays so after a loss of power, unless a sync of it failed before
-pub record IsEmptied (i : ℕ) (w v : World) : Type 0 where
-  pub bytes : (v.files i).bytes ≡ []
-  pub sure : (w.files i).spoiled ≡ false → (v.files i).unsure ≡ []
-
--- ---- what is left alone
 
 -- What was accepted stays, each descriptor is of the file that it was of, and so does an unfinished file where it is safe, by its descriptor and
 -- its number.
@@ -101,8 +61,3 @@ pub record IsElse (t : Table) (file : ℕ) : Type 0 where
   pub display : Each (λ u. u.found.file ≢ file) t.display
   pub output : t.output.found.file ≢ file
   pub errors : t.errors.found.file ≢ file
-
--- and none is read from it, of whatever kind it is
-pub record IsUnread (t : Table) (file : ℕ) : Type 0 where
-  pub image : Each (λ u. u.found.file ≢ file) t.image
-  pub events : Each (λ u. u.found.file ≢ file) t.events

@@ -6,7 +6,6 @@ use Rattle.loom_host.specs.declared.outside.Role.{Role}
 use Rattle.loom_host.specs.declared.outside.Role.TheVariants.{Image, Events, Work, Saved, Display, Transcript, Notes}
 use Rattle.file_roles.specs.Open.{Each}
 use Rattle.file_roles.specs.declared.files.Used.{Used}
-use Rattle.file_roles.specs.declared.table.Beside.{Beside}
 use Rattle.file_roles.specs.declared.table.Expected.{Expected}
 use Rattle.file_roles.specs.declared.table.Table.{Table}
 
@@ -28,28 +27,6 @@ expected_at e Display = e.display
 expected_at e Work = None
 expected_at e Transcript = None
 expected_at e Notes = None
-
--- no other role that is written has it
-pub record IsNoOutput (role : Role) (t : Table) (file : ℕ) : Type 0 where
-  pub work : role ≢ Work → Each (λ u. u.found.file ≢ file) t.work
-  pub display : role ≢ Display → Each (λ u. u.found.file ≢ file) t.display
-  pub saved : role ≢ Saved → t.saved ≢ Some file
-  pub output : role ≢ Transcript → t.output.found.file ≢ file
-  pub errors : role ≢ Notes → t.errors.found.file ≢ file
-
--- A role that is written may have the regular file of this number: no other role has it, nor will one have it where this is Work, nor has Saved
--- while it isn't ended, and it isn't the one that is kept.
-pub record IsFreeFor (role : Role) (t : Table) (b : Beside) (file : ℕ) : Type 0 where
-  pub saving : b.saving ≢ Some file
-  pub named : role ≢ Saved → b.named ≢ Some file
-  pub kept : b.kept ≢ Some file
-  pub expected : role ≡ Work → (r : Role) → expected_at b.expected r ≢ Some file
-  pub inputs : IsNoInput t file
-  pub outputs : IsNoOutput role t file
-
--- and it may not
-abbrev pub IsNoneFor : Role → Table → Beside → ℕ → Type 0
-IsNoneFor role t b file = IsFreeFor role t b file → ⊥
 
 -- Saved may take the place of the file of this number: it isn't the one that is kept, and none that is read, where those aren't shared
 pub record IsFree (t : Table) (kept : Option ℕ) (shares : Bool) (file : ℕ) : Type 0 where

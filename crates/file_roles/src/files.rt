@@ -1,20 +1,16 @@
 // Calls on the files of the roles, over any system.
-ghost use Rattle.std.specs.Prelude.{◌≡◌, ◌≢◌, ◌<◌, ◌≤◌, ℕ, [], Some, true, IsTrue, IsOk, IfErr, IfOk, OnOk, OnErr, length, take};
-ghost use Rattle.loom_host.specs.Bytes.{overwritten, window};
-ghost use Rattle.loom_host.specs.declared.outside.Role.{Role};
-ghost use Rattle.file_system.specs.Calls.{is_in_order, synced};
-ghost use Rattle.file_system.specs.World.{is_regular};
-ghost use Rattle.file_system.specs.declared.system.Kind.TheVariants.{Link, Regular};
-ghost use Rattle.file_system.specs.declared.system.Refusal.TheVariants.{Missing};
+ghost use Rattle.std.specs.Prelude.{◌≡◌, ◌≢◌, ◌<◌, ◌≤◌, ℕ, Some, true, IsTrue, IsOk, IfOk, OnOk, OnErr, length, take};
+ghost use Rattle.file_system.specs.Calls.{is_in_order};
+ghost use Rattle.file_system.specs.declared.system.Kind.TheVariants.{Link};
 ghost use Rattle.file_system.specs.declared.system.Way.TheVariants.{Place, Read};
-ghost use Rattle.file_saving.specs.Opened.{LeavesOpen, any, but, is_live};
-ghost use Rattle.file_roles.specs.Open.{Each, Gives, HasUse, IsAtStart, IsElse, IsEmptied, IsOpened, Leaves, Puts, Writes, is_of, left_at, not_of, not_through, whatever};
-ghost use Rattle.file_roles.specs.Share.{IsFreeFor, IsNoInput, IsNoneFor, expected_at};
+ghost use Rattle.file_roles.specs.Open.{HasUse, IsOpened, Leaves, Puts, Writes, is_of, not_of, not_through, whatever};
+ghost use Rattle.file_roles.specs.Share.{IsNoInput, expected_at};
+ghost use Rattle.loom_host.specs.declared.outside.Role.{Role};
 
 use crate::paths::followed;
 use crate::table::{Beside, Table};
 use file_system::{Found, Kind, Making, Refusal, System, Way};
-use loom_host::{Role, read_bytes_at};
+use loom_host::Role;
 use std::alloc::Global;
 
 // What a new file may be used for, but for what the process forbids.
@@ -34,9 +30,6 @@ pub fn open_old<S: System>(system: &mut S, path: &str, way: Way) -> Result<Used,
     ensures opened { IsTrue S.tells → IfOk result (λ u. IsOpened u (S.moments system.old) (S.moments system.new)) }
     ensures way { IfOk result (λ u. u.way ≡ way) }
     ensures named { IsTrue S.tells → (i : ℕ) → (S.moments system.old).now.names (S.entry path.now) ≡ Some i → ((S.moments system.old).now.files i).kind ≢ Link → IfOk result (λ u. u.found.file ≡ i) }
-    ensures left { IsTrue S.tells → LeavesOpen any any any (S.moments system.old) (S.moments system.new) }
-    ensures starts { IsTrue S.tells → IfOk result (λ u. IsAtStart u (S.moments system.new).now) }
-    ensures missing { IsTrue S.tells → (i : ℕ) → (S.moments system.old).now.names (S.entry path.now) ≡ Some i → ((S.moments system.old).now.files i).kind ≢ Link → IfErr result (λ r. r ≢ Missing) }
 {
     let opened = system.open(path, way, Making::Old, 0)?;
     Ok(Used {
@@ -51,7 +44,6 @@ pub fn open_new<S: System>(system: &mut S, path: &str, way: Way, mode: u32) -> R
     ensures leaves { IsTrue S.tells → Leaves whatever (S.moments system.old) (S.moments system.new) }
     ensures opened { IsTrue S.tells → IfOk result (λ u. IsOpened u (S.moments system.old) (S.moments system.new)) }
     ensures way { IfOk result (λ u. u.way ≡ way) }
-    ensures left { IsTrue S.tells → LeavesOpen any any any (S.moments system.old) (S.moments system.new) }
 {
     let opened = system.open(path, way, Making::New, mode)?;
     Ok(Used {
@@ -62,16 +54,14 @@ pub fn open_new<S: System>(system: &mut S, path: &str, way: Way, mode: u32) -> R
 }
 
 pub fn shut<S: System>(system: &mut S, used: &Used)
-    ensures leaves { IsTrue S.tells → Leaves (not_through used.now.descriptor) (S.moments system.old) (S.moments system.new) }
-    ensures left { IsTrue S.tells → LeavesOpen (but used.now.descriptor) any any (S.moments system.old) (S.moments system.new) }
+    ensures { IsTrue S.tells → Leaves (not_through used.now.descriptor) (S.moments system.old) (S.moments system.new) }
 {
     system.close(used.descriptor);
 }
 
 // The names of the folder that a path lies in are on the disk.
 fn settle_name<S: System>(system: &mut S, path: &str) -> Result<(), Refusal>
-    ensures leaves { IsTrue S.tells → Leaves whatever (S.moments system.old) (S.moments system.new) }
-    ensures left { IsTrue S.tells → LeavesOpen any any any (S.moments system.old) (S.moments system.new) }
+    ensures { IsTrue S.tells → Leaves whatever (S.moments system.old) (S.moments system.new) }
 {
     let folder = system.open_folder(path)?;
     let settled = system.sync(folder);
@@ -89,7 +79,6 @@ fn or_shut<S: System>(
     ensures same { IfOk result (λ u. u ≡ used) }
     ensures still { IsTrue S.tells → OnOk result (S.moments system.new ≡ S.moments system.old) }
     ensures done { OnOk result (IsOk done) }
-    ensures left { IsTrue S.tells → LeavesOpen (but used.descriptor) any any (S.moments system.old) (S.moments system.new) }
 {
     if let Err(refusal) = done {
         shut(system, &used);
@@ -100,9 +89,7 @@ fn or_shut<S: System>(
 
 // A regular file is empty, and that is on the disk. Nothing else can be cut.
 fn clear<S: System>(system: &mut S, used: &Used) -> Result<(), Refusal>
-    ensures leaves { IsTrue S.tells → HasUse used.now (S.moments system.old).now → Leaves (not_of used.now.found.file) (S.moments system.old) (S.moments system.new) }
-    ensures left { IsTrue S.tells → HasUse used.now (S.moments system.old).now → is_live used.now.descriptor (S.moments system.old).now ≡ true → LeavesOpen any any (λ i. used.now.found.kind ≡ Regular → i ≢ used.now.found.file) (S.moments system.old) (S.moments system.new) }
-    ensures emptied { IsTrue S.tells → HasUse used.now (S.moments system.old).now → is_live used.now.descriptor (S.moments system.old).now ≡ true → used.now.found.kind ≡ Regular → OnOk result (IsEmptied used.now.found.file (S.moments system.old).now (S.moments system.new).now) }
+    ensures { IsTrue S.tells → HasUse used.now (S.moments system.old).now → Leaves (not_of used.now.found.file) (S.moments system.old) (S.moments system.new) }
 {
     if used.found.kind != Kind::Regular {
         return Ok(());
@@ -116,7 +103,6 @@ fn create<S: System>(system: &mut S, alloc: Global, name: &str, way: Way) -> Res
     ensures leaves { IsTrue S.tells → Leaves whatever (S.moments system.old) (S.moments system.new) }
     ensures opened { IsTrue S.tells → IfOk result (λ u. IsOpened u (S.moments system.old) (S.moments system.new)) }
     ensures way { IfOk result (λ u. u.way ≡ way) }
-    ensures left { IsTrue S.tells → LeavesOpen any any any (S.moments system.old) (S.moments system.new) }
 {
     let path = followed(system, alloc, name)?;
     let used = open_new(system, path.as_str(), way, NEW_MODE)?;
@@ -129,7 +115,6 @@ fn find<S: System>(system: &mut S, alloc: Global, name: &str, way: Way) -> Resul
     ensures leaves { IsTrue S.tells → Leaves whatever (S.moments system.old) (S.moments system.new) }
     ensures opened { IsTrue S.tells → IfOk result (λ u. IsOpened u (S.moments system.old) (S.moments system.new)) }
     ensures way { IfOk result (λ u. u.way ≡ way) }
-    ensures left { IsTrue S.tells → LeavesOpen any any any (S.moments system.old) (S.moments system.new) }
 {
     match open_old(system, name, way) {
         Ok(used) => Ok(used),
@@ -151,11 +136,6 @@ fn empty<S: System>(
     ensures kept { (file : ℕ) → beside.now.kept ≡ Some file → OnOk result (used.now.found.file ≢ file) }
     ensures expected { role ≡ Role.Work → (r : Role) → OnOk result (expected_at beside.now.expected r ≢ Some used.now.found.file) }
     ensures inputs { OnOk result (IsNoInput table.now used.now.found.file) }
-    ensures left { IsTrue S.tells → HasUse used.now (S.moments system.old).now → is_live used.now.descriptor (S.moments system.old).now ≡ true → LeavesOpen any any (IsNoneFor role table.now beside.now) (S.moments system.old) (S.moments system.new) }
-    ensures emptied { IsTrue S.tells → HasUse used.now (S.moments system.old).now → is_live used.now.descriptor (S.moments system.old).now ≡ true → used.now.found.kind ≡ Regular → OnOk result (IsEmptied used.now.found.file (S.moments system.old).now (S.moments system.new).now) }
-    ensures free { used.now.found.kind ≡ Regular → OnOk result (IsFreeFor role table.now beside.now used.now.found.file) }
-    ensures regular { role ≡ Role.Work → OnOk result (used.now.found.kind ≡ Regular) }
-    ensures unworked { role ≢ Role.Work → OnOk result (Each (λ u. u.found.file ≢ used.now.found.file) table.now.work) }
 {
     if !table.may_have(role, &used.found, beside, false) {
         return Err(Refusal::Failed);
@@ -180,51 +160,16 @@ pub fn attach<S: System>(
     ensures kept { (file : ℕ) → beside.now.kept ≡ Some file → IfOk result (λ u. u.found.file ≢ file) }
     ensures expected { role ≡ Role.Work → (r : Role) → IfOk result (λ u. expected_at beside.now.expected r ≢ Some u.found.file) }
     ensures inputs { IfOk result (λ u. IsNoInput table.now u.found.file) }
-    ensures left { IsTrue S.tells → LeavesOpen any any (IsNoneFor role table.now beside.now) (S.moments system.old) (S.moments system.new) }
-    ensures emptied { IsTrue S.tells → IfOk result (λ u. u.found.kind ≡ Regular → ((S.moments system.new).now.files u.found.file).bytes ≡ []) }
-    ensures free { IfOk result (λ u. u.found.kind ≡ Regular → IsFreeFor role table.now beside.now u.found.file) }
-    ensures regular { role ≡ Role.Work → IfOk result (λ u. u.found.kind ≡ Regular) }
-    ensures unworked { role ≢ Role.Work → IfOk result (λ u. Each (λ v. v.found.file ≢ u.found.file) table.now.work) }
 {
     let used = find(system, alloc, name, way)?;
     let emptied = empty(system, &used, role, table, beside);
     or_shut(system, used, emptied)
 }
 
-/// A file that is read in order, from its begin on. No role is written to it, if it is a regular one.
-pub fn attach_read<S: System>(
-    system: &mut S,
-    name: &str,
-    table: &Table,
-    saving: Option<u128>,
-) -> Result<Used, Refusal>
-    ensures leaves { IsTrue S.tells → Leaves whatever (S.moments system.old) (S.moments system.new) }
-    ensures left { IsTrue S.tells → LeavesOpen any any any (S.moments system.old) (S.moments system.new) }
-    ensures opened { IsTrue S.tells → IfOk result (λ u. IsOpened u (S.moments system.old) (S.moments system.new)) }
-    ensures starts { IsTrue S.tells → IfOk result (λ u. IsAtStart u (S.moments system.new).now) }
-    ensures way { IfOk result (λ u. u.way ≡ Read) }
-    ensures unwritten { IfOk result (λ u. u.found.kind ≡ Regular → IsElse table.now u.found.file) }
-    ensures unsaved { IfOk result (λ u. saving ≢ Some u.found.file) }
-{
-    let used = open_old(system, name, Way::Read)?;
-    let may = allowed(table.may_read(&used.found, saving));
-    or_shut(system, used, may)
-}
-
-fn allowed(may: bool) -> Result<(), Refusal>
-    ensures { OnOk result (may ≡ true) }
-{
-    if may { Ok(()) } else { Err(Refusal::Failed) }
-}
-
 /// The next bytes of a file that is read in order.
 pub fn take_some<S: System>(system: &mut S, used: &Used, buf: &mut [u8]) -> Result<usize, Refusal>
     ensures bound { IfOk result (λ n. n ≤ length buf.old) }
     ensures leaves { IsTrue S.tells → used.now.way ≡ Read → HasUse used.now (S.moments system.old).now → Leaves whatever (S.moments system.old) (S.moments system.new) }
-    ensures took { IsTrue S.tells → HasUse used.now (S.moments system.old).now → is_live used.now.descriptor (S.moments system.old).now ≡ true → IfOk result (λ n. Gives used.now.descriptor n buf.new (S.moments system.old) (S.moments system.new)) }
-    ensures end { IsTrue S.tells → HasUse used.now (S.moments system.old).now → is_live used.now.descriptor (S.moments system.old).now ≡ true → 0 < length buf.old → IfOk result (λ n. n ≡ 0 → left_at used.now.descriptor (S.moments system.old).now ≡ []) }
-    ensures failed { IsTrue S.tells → OnErr result (S.moments system.new ≡ S.moments system.old) }
-    ensures left { IsTrue S.tells → HasUse used.now (S.moments system.old).now → is_live used.now.descriptor (S.moments system.old).now ≡ true → LeavesOpen any (but used.now.descriptor) any (S.moments system.old) (S.moments system.new) }
 {
     system.read(used.descriptor, buf)
 }
@@ -238,16 +183,13 @@ pub fn put<S: System>(system: &mut S, used: &Used, buf: &[u8]) -> Result<usize, 
         → IfOk result (λ n. Puts used.now.descriptor used.now.found.file (take n buf.now) (S.moments system.old) (S.moments system.new)) }
     ensures failed { IsTrue S.tells → is_in_order (Some used.now.way) ≡ true → HasUse used.now (S.moments system.old).now
         → OnErr result (Leaves (not_of used.now.found.file) (S.moments system.old) (S.moments system.new)) }
-    ensures left { IsTrue S.tells → is_in_order (Some used.now.way) ≡ true → HasUse used.now (S.moments system.old).now → LeavesOpen any (but used.now.descriptor) (but used.now.found.file) (S.moments system.old) (S.moments system.new) }
 {
     system.append(used.descriptor, buf)
 }
 
 /// What was put to a regular file is on the disk. What keeps no bytes has none.
 pub fn settle<S: System>(system: &mut S, used: &Used) -> Result<(), Refusal>
-    ensures leaves { IsTrue S.tells → HasUse used.now (S.moments system.old).now → Leaves (not_of used.now.found.file) (S.moments system.old) (S.moments system.new) }
-    ensures left { IsTrue S.tells → HasUse used.now (S.moments system.old).now → is_live used.now.descriptor (S.moments system.old).now ≡ true → LeavesOpen any any (but used.now.found.file) (S.moments system.old) (S.moments system.new) }
-    ensures settled { IsTrue S.tells → HasUse used.now (S.moments system.old).now → is_live used.now.descriptor (S.moments system.old).now ≡ true → used.now.found.kind ≡ Regular → OnOk result ((S.moments system.new).now.files used.now.found.file ≡ synced ((S.moments system.old).now.files used.now.found.file)) }
+    ensures { IsTrue S.tells → HasUse used.now (S.moments system.old).now → Leaves (not_of used.now.found.file) (S.moments system.old) (S.moments system.new) }
 {
     if used.found.kind != Kind::Regular {
         return Ok(());
@@ -285,8 +227,7 @@ pub fn read_whole<S: System>(
     place: u64,
     buf: &mut [u8],
 ) -> Result<(), Refusal>
-    ensures still { IsTrue S.tells → S.moments system.new ≡ S.moments system.old }
-    ensures bytes { IsTrue S.tells → HasUse used.now (S.moments system.old).now → is_live used.now.descriptor (S.moments system.old).now ≡ true → is_regular ((S.moments system.old).now.files used.now.found.file).kind ≡ true → OnOk result (buf.new ≡ window ((S.moments system.old).now.files used.now.found.file).bytes place (length buf.old)) }
+    ensures { IsTrue S.tells → S.moments system.new ≡ S.moments system.old }
 {
     let mut done = 0;
     while done < buf.len() {
@@ -295,7 +236,7 @@ pub fn read_whole<S: System>(
         };
         let n = system.read_at(used.descriptor, from, &mut buf[done..])?;
         if n == 0 {
-            read_bytes_at(&[], 0, &mut buf[done..]);
+            buf[done..].fill(0);
             return Ok(());
         }
         done += n;
@@ -303,21 +244,15 @@ pub fn read_whole<S: System>(
     Ok(())
 }
 
-/// The whole piece to a place on. One of no bytes changes nothing, so that it is refused but at the begin.
+/// The whole piece to a place on.
 pub fn write_whole<S: System>(
     system: &mut S,
     used: &Used,
     place: u64,
     buf: &[u8],
 ) -> Result<(), Refusal>
-    ensures leaves { IsTrue S.tells → used.now.way ≡ Place → HasUse used.now (S.moments system.old).now → Leaves (not_of used.now.found.file) (S.moments system.old) (S.moments system.new) }
-    ensures left { IsTrue S.tells → used.now.way ≡ Place → HasUse used.now (S.moments system.old).now → is_live used.now.descriptor (S.moments system.old).now ≡ true → LeavesOpen any any (but used.now.found.file) (S.moments system.old) (S.moments system.new) }
-    ensures wrote { IsTrue S.tells → used.now.way ≡ Place → HasUse used.now (S.moments system.old).now → is_live used.now.descriptor (S.moments system.old).now ≡ true → is_regular ((S.moments system.old).now.files used.now.found.file).kind ≡ true
-        → OnOk result (((S.moments system.new).now.files used.now.found.file).bytes ≡ overwritten ((S.moments system.old).now.files used.now.found.file).bytes place buf.now) }
+    ensures { IsTrue S.tells → used.now.way ≡ Place → HasUse used.now (S.moments system.old).now → Leaves (not_of used.now.found.file) (S.moments system.old) (S.moments system.new) }
 {
-    if buf.is_empty() && place > 0 {
-        return Err(Refusal::Failed);
-    }
     let mut done = 0;
     while done < buf.len() {
         let Some(from) = place.checked_add(done as u64) else {

@@ -12,12 +12,11 @@
 //!
 //! Read `specs/Open.antt`, then `Share.antt`.
 //!
-//! - Proved: Over every system that tells: what a read in order gives, that a file which is read starts whole and no role is written to it, that
-//!   Work and Display begin empty, and what Work holds after a read or a write at a place (`Gives`, `IsAtStart`, `emptied`, `bytes`, `wrote`). No
-//!   call on a role's file changes another one that is open, an unfinished one, or what was put through another descriptor (`LeavesOpen`,
-//!   `Leaves`). A role that is written has a file that no other one has, and is refused one only where it may not have it (`may_have`).
+//! - Proved: Over every system that tells: no call on another role's file changes an unfinished one, or what was put through another descriptor;
+//!   no role's file is the unfinished one; `begin_saved` leaves the name as it was. A role that is written has neither the file that is kept nor
+//!   one that Image or Events is read from, Saved has the place of none of these where they aren't shared, and Work has none that is expected.
 //! - Tested: As part of `file_host` (`file_tests`).
-//! - Not said: That a file lasts behind a write of Display; why a call failed.
+//! - Not said: What files hold, but for the unfinished one; that two roles which are written have two files.
 #![tactic(auto)]
 
 mod files;
@@ -26,8 +25,8 @@ mod saved;
 mod table;
 
 pub use files::{
-    Used, attach, attach_read, open_old, put, put_some, put_through, read_whole, settle, shut,
-    take_some, write_whole,
+    Used, attach, open_old, put, put_some, put_through, read_whole, settle, shut, take_some,
+    write_whole,
 };
 pub use paths::followed;
 pub use saved::begin_saved;

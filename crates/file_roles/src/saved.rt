@@ -2,8 +2,7 @@
 ghost use Rattle.std.specs.Prelude.{◌≡◌, ◌≢◌, ℕ, List, [], Some, IsTrue, IfOk, OnOk, string_bytes};
 ghost use Rattle.file_system.specs.World.{Entry};
 ghost use Rattle.file_saving.specs.Saving.{IsUnfinished, KeepsName, KeepsPut, Use, use_at};
-ghost use Rattle.file_saving.specs.Opened.{LeavesOpen, any, but};
-ghost use Rattle.file_roles.specs.Open.{IsElse, IsUnread};
+ghost use Rattle.file_roles.specs.Open.{IsElse};
 ghost use Rattle.file_roles.specs.Share.{IsFree, IsOf};
 
 use crate::table::{Beside, Table};
@@ -17,7 +16,6 @@ fn find_old<S: System>(system: &mut S, path: &str) -> Result<Option<Found>, Refu
     ensures keeps { IsTrue S.tells → (e : Entry) → KeepsName e (S.moments system.old) (S.moments system.new) }
     ensures puts { IsTrue S.tells → KeepsPut (S.moments system.old) (S.moments system.new) }
     ensures named { IsTrue S.tells → (i : ℕ) → (S.moments system.old).now.names (S.entry path.now) ≡ Some i → IfOk result (λ found. IsOf i found) }
-    ensures left { IsTrue S.tells → LeavesOpen any any any (S.moments system.old) (S.moments system.new) }
 {
     match system.look(path, false) {
         Ok(found) => {
@@ -41,7 +39,6 @@ fn old_mode<S: System>(
     ensures keeps { IsTrue S.tells → (e : Entry) → KeepsName e (S.moments system.old) (S.moments system.new) }
     ensures puts { IsTrue S.tells → KeepsPut (S.moments system.old) (S.moments system.new) }
     ensures free { IsTrue S.tells → (i : ℕ) → (S.moments system.old).now.names (S.entry path.now) ≡ Some i → OnOk result (IsFree table.now beside.now.kept shares i) }
-    ensures left { IsTrue S.tells → LeavesOpen any any any (S.moments system.old) (S.moments system.new) }
 {
     let Some(found) = find_old(system, path)? else {
         return Ok(None);
@@ -59,8 +56,6 @@ fn apart<S: System>(system: &mut S, saving: Saving, table: &Table) -> Result<Sav
     ensures same { IfOk result (λ s. s ≡ saving) }
     ensures still { IsTrue S.tells → OnOk result (S.moments system.new ≡ S.moments system.old) }
     ensures apart { IfOk result (λ s. IsElse table.now s.file) }
-    ensures unread { IfOk result (λ s. IsUnread table.now s.file) }
-    ensures left { IsTrue S.tells → LeavesOpen (but saving.descriptor) any any (S.moments system.old) (S.moments system.new) }
 {
     if table.is_apart(saving.file) {
         return Ok(saving);
@@ -85,8 +80,6 @@ pub fn begin_saved<S: System>(
     ensures fresh { IsTrue S.tells → (d : ℕ) (u : Use) → use_at d (S.moments system.old).now ≡ Some u → IfOk result (λ s. d ≢ s.descriptor) }
     ensures apart { IfOk result (λ s. IsElse table.now s.file) }
     ensures free { IsTrue S.tells → (i : ℕ) → (S.moments system.old).now.names (S.entry path.now) ≡ Some i → OnOk result (IsFree table.now beside.now.kept shares i) }
-    ensures unread { IfOk result (λ s. IsUnread table.now s.file) }
-    ensures left { IsTrue S.tells → LeavesOpen any any any (S.moments system.old) (S.moments system.new) }
 {
     let mode = old_mode(system, path, table, beside, shares)?;
     let saving = begin(system, alloc, path, mode)?;

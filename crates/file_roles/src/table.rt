@@ -1,15 +1,23 @@
 // What is open for the roles, and which files they may not share.
 ghost use Rattle.std.specs.Prelude.{◌≡◌, ◌≢◌, ℕ, None, Some, true, false};
 ghost use Rattle.loom_host.specs.Outside.{SameBut};
-ghost use Rattle.file_system.specs.declared.system.Kind.TheVariants.{Regular};
-ghost use Rattle.file_roles.specs.Open.{Each, IsElse, IsUnread};
-ghost use Rattle.file_roles.specs.Share.{IsFreeFor, IsNoInput, IsNoInputOf, IsNoOutput, IsNoted, expected_at};
+ghost use Rattle.file_roles.specs.Open.{IsElse};
+ghost use Rattle.file_roles.specs.Share.{IsNoInput, IsNoInputOf, IsNoted, expected_at};
 ghost use Rattle.loom_host.specs.declared.outside.Role.{Role};
 ghost use Rattle.file_roles.specs.declared.files.Used.{Used};
 
 use crate::files::Used;
 use file_system::{Found, Kind};
 use loom_host::Role;
+
+// The roles that are written.
+const WRITTEN: [Role; 5] = [
+    Role::Work,
+    Role::Saved,
+    Role::Display,
+    Role::Transcript,
+    Role::Notes,
+];
 
 /// What is open for the roles. `saved` is the file that Saved became when it was ended.
 #[derive(Clone, Copy)]
@@ -33,25 +41,49 @@ pub struct Beside {
     pub expected: Expected,
 }
 
+/// Which file it is, by whatever name. None for what keeps no bytes, as a terminal, a pipe or the null device: roles may share it.
+pub fn identity(found: &Found) -> Option<u128> {
+    match found.kind {
+        Kind::Regular => Some(found.file),
+        Kind::Folder | Kind::Link | Kind::Device => None,
+    }
+}
+
+fn identity_in(used: &Option<Used>) -> Option<u128> {
+    match used {
+        Some(used) => identity(&used.found),
+        None => None,
+    }
+}
+
 impl Table {
+    fn identity(&self, role: Role) -> Option<u128> {
+        match role {
+            Role::Image => identity_in(&self.image),
+            Role::Events => identity_in(&self.events),
+            Role::Work => identity_in(&self.work),
+            Role::Saved => self.saved,
+            Role::Display => identity_in(&self.display),
+            Role::Transcript => identity(&self.output.found),
+            Role::Notes => identity(&self.errors.found),
+        }
+    }
+
     // Whether Image or Events is read from the regular file of this number.
     fn is_read(&self, file: u128) -> bool
-        ensures free { result ≡ false → IsNoInput self.now file }
-        ensures refused { result ≡ true → IsNoInput self.now file → ⊥ }
+        ensures { result ≡ false → IsNoInput self.now file }
     {
         is_input(&self.image, file) || is_input(&self.events, file)
     }
 
     // Whether a role that is written has this file, other than this role itself.
-    fn is_taken(&self, role: Role, file: u128) -> bool
-        ensures free { result ≡ false → IsNoOutput role self.now file }
-        ensures refused { result ≡ true → IsNoOutput role self.now file → ⊥ }
-    {
-        role != Role::Work && has_file(&self.work, file)
-            || role != Role::Display && has_file(&self.display, file)
-            || role != Role::Saved && self.saved == Some(file)
-            || role != Role::Transcript && self.output.found.file == file
-            || role != Role::Notes && self.errors.found.file == file
+    fn is_taken(&self, role: Role, file: u128) -> bool {
+        for other in &WRITTEN {
+            if *other != role && self.identity(*other) == Some(file) {
+                return true;
+            }
+        }
+        false
     }
 
     /// Whether a role may have this file: no other has it, but for one that is only read where `shares` is said, and it isn't kept. Work takes a
@@ -61,10 +93,6 @@ impl Table {
         ensures kept { result ≡ true → (file : ℕ) → beside.now.kept ≡ Some file → found.now.file ≢ file }
         ensures expected { result ≡ true → role ≡ Role.Work → (r : Role) → expected_at beside.now.expected r ≢ Some found.now.file }
         ensures inputs { result ≡ true → shares ≡ false → IsNoInput self.now found.now.file }
-        ensures free { result ≡ true → shares ≡ false → found.now.kind ≡ Regular → IsFreeFor role self.now beside.now found.now.file }
-        ensures regular { result ≡ true → role ≡ Role.Work → found.now.kind ≡ Regular }
-        ensures unworked { result ≡ true → role ≢ Role.Work → Each (λ u. u.found.file ≢ found.now.file) self.now.work }
-        ensures refused { result ≡ false → shares ≡ false → (role ≡ Role.Work → found.now.kind ≡ Regular) → IsFreeFor role self.now beside.now found.now.file → ⊥ }
     {
         if beside.saving == Some(found.file) || beside.kept == Some(found.file) {
             return false;
@@ -78,55 +106,30 @@ impl Table {
         self.is_free(role, found, beside)
     }
 
-    // Whether no role that is written has it, nor Saved by its name. What keeps no bytes is nobody's, but Work takes a regular file alone.
-    fn is_free(&self, role: Role, found: &Found, beside: &Beside) -> bool
-        ensures outputs { result ≡ true → found.now.kind ≡ Regular → IsNoOutput role self.now found.now.file }
-        ensures named { result ≡ true → found.now.kind ≡ Regular → role ≢ Role.Saved → beside.now.named ≢ Some found.now.file }
-        ensures regular { result ≡ true → role ≡ Role.Work → found.now.kind ≡ Regular }
-        ensures unworked { result ≡ true → role ≢ Role.Work → Each (λ u. u.found.file ≢ found.now.file) self.now.work }
-        ensures refused { result ≡ false → (role ≡ Role.Work → found.now.kind ≡ Regular) → (role ≢ Role.Saved → beside.now.named ≢ Some found.now.file) → IsNoOutput role self.now found.now.file → ⊥ }
-    {
-        if found.kind != Kind::Regular {
-            return role != Role::Work && !has_file(&self.work, found.file);
-        }
-        if role != Role::Saved && beside.named == Some(found.file) {
+    // Whether no role that is written has it, nor Saved by its name.
+    fn is_free(&self, role: Role, found: &Found, beside: &Beside) -> bool {
+        let Some(file) = identity(found) else {
+            return role != Role::Work;
+        };
+        if role != Role::Saved && beside.named == Some(file) {
             return false;
         }
-        !self.is_taken(role, found.file)
+        !self.is_taken(role, file)
     }
 
-    /// Whether a role may be read from this file: none is written to it, if it is a regular one, nor is it `saving`.
-    pub fn may_read(&self, found: &Found, saving: Option<u128>) -> bool
-        ensures unwritten { result ≡ true → found.now.kind ≡ Regular → IsElse self.now found.now.file }
-        ensures unsaved { result ≡ true → saving ≢ Some found.now.file }
-        ensures refused { result ≡ false → saving ≢ Some found.now.file → IsElse self.now found.now.file → ⊥ }
-    {
-        saving != Some(found.file) && (found.kind != Kind::Regular || !self.is_written(found.file))
-    }
-
-    // Whether Work, Display or a standard stream has this file.
-    fn is_written(&self, file: u128) -> bool
-        ensures free { result ≡ false → IsElse self.now file }
-        ensures refused { result ≡ true → IsElse self.now file → ⊥ }
-    {
-        has_file(&self.work, file)
-            || has_file(&self.display, file)
-            || self.output.found.file == file
-            || self.errors.found.file == file
-    }
-
-    /// Whether no role has a file of this number, but for Saved.
+    /// Whether what is written has no file of this number.
     pub fn is_apart(&self, file: u128) -> bool
-        ensures apart { result ≡ true → IsElse self.now file }
-        ensures unread { result ≡ true → IsUnread self.now file }
+        ensures { result ≡ true → IsElse self.now file }
     {
-        !self.is_written(file) && !has_file(&self.image, file) && !has_file(&self.events, file)
+        !has_file(&self.work, file)
+            && !has_file(&self.display, file)
+            && self.output.found.file != file
+            && self.errors.found.file != file
     }
 }
 
 fn has_file(used: &Option<Used>, file: u128) -> bool
-    ensures free { result ≡ false → Each (λ u. u.found.file ≢ file) used.now }
-    ensures refused { result ≡ true → Each (λ u. u.found.file ≢ file) used.now → ⊥ }
+    ensures { result ≡ false → (u : Used) → used.now ≡ Some u → u.found.file ≢ file }
 {
     match used {
         Some(used) => used.found.file == file,
@@ -135,8 +138,7 @@ fn has_file(used: &Option<Used>, file: u128) -> bool
 }
 
 fn is_input(used: &Option<Used>, file: u128) -> bool
-    ensures free { result ≡ false → IsNoInputOf file used.now }
-    ensures refused { result ≡ true → IsNoInputOf file used.now → ⊥ }
+    ensures { result ≡ false → IsNoInputOf file used.now }
 {
     match used {
         Some(used) => used.found.kind == Kind::Regular && used.found.file == file,
@@ -182,8 +184,7 @@ impl Expected {
 
     /// Whether a role will have this file.
     pub fn has(&self, file: u128) -> bool
-        ensures none { result ≡ false → (role : Role) → expected_at self.now role ≢ Some file }
-        ensures refused { result ≡ true → ((role : Role) → expected_at self.now role ≢ Some file) → ⊥ }
+        ensures { result ≡ false → (role : Role) → expected_at self.now role ≢ Some file }
     {
         self.image == Some(file)
             || self.events == Some(file)

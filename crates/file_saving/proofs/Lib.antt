@@ -1,3 +1,2 @@
-pub mod OpenedLaws
 pub mod PutLaws
 pub mod SavingLaws

@@ -11,11 +11,11 @@
 //! finish(system, saving)?;                // now the name leads to it, and a loss of power changes nothing
 //! ```
 //!
-//! Read `specs/Saving.antt`, its first part alone, and `specs/Opened.antt` for what is open elsewhere.
+//! Read `specs/Saving.antt`, its first part alone.
 //!
 //! - Proved: Over every system that tells: the name leads to the old file or to the whole new one, at each moment and after a loss of power;
 //!   behind an Ok to the new one. A giving up leaves the name as it was. Each call leaves what other descriptors accepted, and which file
-//!   each is of (`KeepsPut`), and the files that are open elsewhere (`LeavesOpen`).
+//!   each is of (`KeepsPut`).
 //! - Tested: 504 cases that fail from each call on, with losses of power (`file_tests`).
 //! - Not said: That anything is saved where another process changes the same names.
 #![tactic(auto)]

@@ -2,7 +2,6 @@
 // disk. Until then the file of that name is as before, and where anything fails it stays so.
 ghost use Rattle.std.specs.Prelude.{◌≡◌, ◌≢◌, ◌≤◌, ◌<◌, ◌++◌, [], ℕ, List, Some, IsTrue, IfOk, OnOk, OnErr, length, take, string_bytes};
 ghost use Rattle.file_system.specs.World.{Entry, Moments, Throughout, World, all, part_ending};
-ghost use Rattle.file_saving.specs.Opened.{LeavesOpen, any, but};
 ghost use Rattle.file_saving.specs.Saving.{IsApart, IsFinished, IsMovedForGood, IsOldOrNew, IsOpenFolder, IsSaved, IsStillOrMoved, IsUnfinished, KeepsName, KeepsPut, KeepsPutBut, LeavesName, Use, use_at};
 
 use file_system::{Kind, Making, Refusal, System, Way};
@@ -36,7 +35,6 @@ fn part_of(alloc: Global, name: &str) -> Result<String, AllocError>
 fn clear<S: System>(system: &mut S, part: &str) -> Result<(), Refusal>
     ensures keeps { IsTrue S.tells → (e : Entry) → e ≢ S.entry part.now → KeepsName e (S.moments system.old) (S.moments system.new) }
     ensures puts { IsTrue S.tells → KeepsPut (S.moments system.old) (S.moments system.new) }
-    ensures left { IsTrue S.tells → LeavesOpen any any any (S.moments system.old) (S.moments system.new) }
 {
     match system.look(part, false) {
         Ok(found) => {
@@ -64,7 +62,6 @@ fn open_part<S: System>(
     ensures begun { IsTrue S.tells → IfOk result (λ s. IsUnfinished (S.entry (string_bytes part)) s.descriptor s.file [] (S.moments system.new).now) }
     ensures fresh { IsTrue S.tells → (d : ℕ) (u : Use) → use_at d (S.moments system.old).now ≡ Some u → IfOk result (λ s. d ≢ s.descriptor) }
     ensures puts { IsTrue S.tells → KeepsPut (S.moments system.old) (S.moments system.new) }
-    ensures left { IsTrue S.tells → LeavesOpen any any any (S.moments system.old) (S.moments system.new) }
 {
     let opened = system.open(part.as_str(), Way::Append, Making::New, mode)?;
     Ok(Saving {
@@ -83,8 +80,6 @@ fn settle<S: System>(system: &mut S, saving: &Saving) -> Result<(), Refusal>
         → OnOk result (IsFinished (S.entry (string_bytes saving.now.part)) saving.now.file bytes (S.moments system.new).now) }
     ensures puts { IsTrue S.tells → (bytes : List ℕ) → IsUnfinished (S.entry (string_bytes saving.now.part)) saving.now.descriptor saving.now.file bytes (S.moments system.old).now
         → KeepsPut (S.moments system.old) (S.moments system.new) }
-    ensures left { IsTrue S.tells → (bytes : List ℕ) → IsUnfinished (S.entry (string_bytes saving.now.part)) saving.now.descriptor saving.now.file bytes (S.moments system.old).now
-        → LeavesOpen (but saving.now.descriptor) any (but saving.now.file) (S.moments system.old) (S.moments system.new) }
 {
     system.sync(saving.descriptor)?;
     let found = system.look(saving.part.as_str(), false)?;
@@ -105,8 +100,6 @@ fn put_name<S: System>(system: &mut S, saving: &Saving, folder: u32) -> Result<(
         → OnOk result (IsMovedForGood (S.entry (string_bytes saving.now.path)) saving.now.file bytes (S.moments system.old).now (S.moments system.new).now) }
     ensures puts { IsTrue S.tells → (bytes : List ℕ) → IsFinished (S.entry (string_bytes saving.now.part)) saving.now.file bytes (S.moments system.old).now
         → IsOpenFolder folder (S.entry (string_bytes saving.now.path)).folder (S.moments system.old).now → KeepsPut (S.moments system.old) (S.moments system.new) }
-    ensures left { IsTrue S.tells → (bytes : List ℕ) → IsFinished (S.entry (string_bytes saving.now.part)) saving.now.file bytes (S.moments system.old).now
-        → IsOpenFolder folder (S.entry (string_bytes saving.now.path)).folder (S.moments system.old).now → LeavesOpen any any any (S.moments system.old) (S.moments system.new) }
 {
     system.rename(saving.part.as_str(), saving.path.as_str())?;
     system.sync(folder)
@@ -120,8 +113,6 @@ fn take_name<S: System>(system: &mut S, saving: &Saving) -> Result<(), Refusal>
         → OnOk result (IsMovedForGood (S.entry (string_bytes saving.now.path)) saving.now.file bytes (S.moments system.old).now (S.moments system.new).now) }
     ensures puts { IsTrue S.tells → (bytes : List ℕ) → IsFinished (S.entry (string_bytes saving.now.part)) saving.now.file bytes (S.moments system.old).now
         → KeepsPut (S.moments system.old) (S.moments system.new) }
-    ensures left { IsTrue S.tells → (bytes : List ℕ) → IsFinished (S.entry (string_bytes saving.now.part)) saving.now.file bytes (S.moments system.old).now
-        → LeavesOpen any any any (S.moments system.old) (S.moments system.new) }
 {
     let folder = system.open_folder(saving.path.as_str())?;
     let named = put_name(system, saving, folder);
@@ -133,7 +124,6 @@ fn take_name<S: System>(system: &mut S, saving: &Saving) -> Result<(), Refusal>
 fn remove_part<S: System>(system: &mut S, saving: &Saving)
     ensures untouched { IsTrue S.tells → (e : Entry) → IsApart e (S.entry (string_bytes saving.now.part)) saving.now.file (S.moments system.old).now → LeavesName e (S.moments system.old) (S.moments system.new) }
     ensures puts { IsTrue S.tells → KeepsPut (S.moments system.old) (S.moments system.new) }
-    ensures left { IsTrue S.tells → LeavesOpen any any any (S.moments system.old) (S.moments system.new) }
 {
     if let Ok(found) = system.look(saving.part.as_str(), false) {
         if found.file == saving.file {
@@ -146,7 +136,6 @@ fn remove_part<S: System>(system: &mut S, saving: &Saving)
 pub fn discard<S: System>(system: &mut S, saving: &Saving)
     ensures untouched { IsTrue S.tells → (e : Entry) → IsApart e (S.entry (string_bytes saving.now.part)) saving.now.file (S.moments system.old).now → LeavesName e (S.moments system.old) (S.moments system.new) }
     ensures puts { IsTrue S.tells → KeepsPut (S.moments system.old) (S.moments system.new) }
-    ensures left { IsTrue S.tells → LeavesOpen (but saving.now.descriptor) any any (S.moments system.old) (S.moments system.new) }
 {
     system.close(saving.descriptor);
     remove_part(system, saving);
@@ -158,7 +147,6 @@ pub fn give_up_for<S: System>(system: &mut S, saving: &Saving, name: &str) -> Re
     ensures untouched { IsTrue S.tells → LeavesName (S.entry name.now) (S.moments system.old) (S.moments system.new) }
     ensures failed { IsTrue S.tells → OnErr result (S.moments system.new ≡ S.moments system.old) }
     ensures puts { IsTrue S.tells → KeepsPut (S.moments system.old) (S.moments system.new) }
-    ensures left { IsTrue S.tells → LeavesOpen (but saving.now.descriptor) any any (S.moments system.old) (S.moments system.new) }
 {
     match system.look(name, false) {
         Ok(other) => {
@@ -185,7 +173,6 @@ pub fn begin<S: System>(
     ensures begun { IsTrue S.tells → IfOk result (λ s. IsUnfinished (S.entry (string_bytes s.part)) s.descriptor s.file [] (S.moments system.new).now) }
     ensures fresh { IsTrue S.tells → (d : ℕ) (u : Use) → use_at d (S.moments system.old).now ≡ Some u → IfOk result (λ s. d ≢ s.descriptor) }
     ensures puts { IsTrue S.tells → KeepsPut (S.moments system.old) (S.moments system.new) }
-    ensures left { IsTrue S.tells → LeavesOpen any any any (S.moments system.old) (S.moments system.new) }
 {
     let Ok(path) = String::from_str(alloc, name) else {
         return Err(Refusal::Failed);
@@ -208,7 +195,6 @@ fn permitted<S: System>(
     ensures same { IfOk result (λ s. s ≡ saving) }
     ensures still { IsTrue S.tells → OnOk result (S.moments system.new ≡ S.moments system.old) }
     ensures puts { IsTrue S.tells → KeepsPut (S.moments system.old) (S.moments system.new) }
-    ensures left { IsTrue S.tells → LeavesOpen (but saving.descriptor) any any (S.moments system.old) (S.moments system.new) }
 {
     let Some(mode) = mode else {
         return Ok(saving);
@@ -235,8 +221,6 @@ pub fn write<S: System>(system: &mut S, saving: &Saving, buf: &[u8]) -> Result<u
         → OnErr result (KeepsPut (S.moments system.old) (S.moments system.new)) }
     ensures others { IsTrue S.tells → (bytes : List ℕ) → IsUnfinished (S.entry (string_bytes saving.now.part)) saving.now.descriptor saving.now.file bytes (S.moments system.old).now
         → OnOk result (KeepsPutBut saving.now.descriptor (S.moments system.old) (S.moments system.new)) }
-    ensures left { IsTrue S.tells → (bytes : List ℕ) → IsUnfinished (S.entry (string_bytes saving.now.part)) saving.now.descriptor saving.now.file bytes (S.moments system.old).now
-        → LeavesOpen any (but saving.now.descriptor) (but saving.now.file) (S.moments system.old) (S.moments system.new) }
 {
     system.append(saving.descriptor, buf)
 }
@@ -249,8 +233,6 @@ pub fn finish<S: System>(system: &mut S, saving: Saving) -> Result<(), Refusal>
         → OnOk result (IsMovedForGood (S.entry (string_bytes saving.path)) saving.file bytes (S.moments system.old).now (S.moments system.new).now) }
     ensures puts { IsTrue S.tells → (bytes : List ℕ) → IsUnfinished (S.entry (string_bytes saving.part)) saving.descriptor saving.file bytes (S.moments system.old).now
         → KeepsPut (S.moments system.old) (S.moments system.new) }
-    ensures left { IsTrue S.tells → (bytes : List ℕ) → IsUnfinished (S.entry (string_bytes saving.part)) saving.descriptor saving.file bytes (S.moments system.old).now
-        → LeavesOpen (but saving.descriptor) any (but saving.file) (S.moments system.old) (S.moments system.new) }
 {
     if settle(system, &saving).is_err() {
         discard(system, &saving);

@@ -1,5 +1,5 @@
 -- What the calls of a system do to its files.
-use Rattle.std.specs.Prelude.{◌≡◌, ◌≢◌, ◌⊎◌, ℕ, ◌+◌, ◌≤◌, ◌<◌, Bool, true, false, List, [], ◌∷◌, ◌++◌, length, drop, Option, None, Some, slice_index, if◌then◌else◌}
+use Rattle.std.specs.Prelude.{◌≡◌, ◌≢◌, ◌⊎◌, ℕ, ◌+◌, Bool, true, false, List, [], ◌∷◌, ◌++◌, length, drop, Option, None, Some, if◌then◌else◌}
 use Rattle.std.specs.Option.{option_map}
 use Rattle.loom_host.specs.Bytes.{overwritten}
 use Rattle.file_system.specs.World.{Entry, Run, Whole, FileState, Opening, World, Moments, is_regular}
@@ -126,12 +126,12 @@ pub record Closes (d : ℕ) (w v : World) : Type 0 where
 
 -- ---- bytes
 
-abbrev pub placed_on : ℕ → Opening → Opening
-placed_on n o = record o { place = o.place + n }
+abbrev pub taken_of : ℕ → Opening → Opening
+taken_of n o = record o { place = o.place + n; coming = drop n o.coming }
 
 -- so many bytes were taken through a descriptor
 pub record Reads (d : ℕ) (o : Opening) (n : ℕ) (w v : World) : Type 0 where
-  pub opened : v.opened d ≡ Some (placed_on n o)
+  pub opened : v.opened d ≡ Some (taken_of n o)
   pub others : SameOpenedBut d w v
   pub names : SameNames w v
   pub files : SameFiles w v
@@ -148,23 +148,11 @@ pub record Appends (d : ℕ) (o : Opening) (bytes : List ℕ) (w v : World) : Ty
   pub opened : v.opened d ≡ Some (put_to bytes o)
   pub others : SameOpenedBut d w v
   pub file : o.way ≡ Some Append → v.files o.file ≡ appended bytes (w.files o.file)
-  pub kind : (v.files o.file).kind ≡ (w.files o.file).kind
   pub files : SameFilesBut o.file w v
   pub names : SameNames w v
 
--- of the file of this number nothing is known but that it is there, and what it is
+-- of the file of this number nothing is known but that it is there
 pub record Spoils (i : ℕ) (w v : World) : Type 0 where
-  pub opened : SameOpened w v
-  pub kind : (v.files i).kind ≡ (w.files i).kind
-  pub files : SameFilesBut i w v
-  pub names : SameNames w v
-
--- a write of so many bytes at a place failed: any may stand there, and elsewhere nothing changed
-pub record Tears (place len i : ℕ) (w v : World) : Type 0 where
-  pub kind : (v.files i).kind ≡ (w.files i).kind
-  pub outside : (k : ℕ) → (place ≤ k → k < place + len → ⊥) → slice_index (v.files i).bytes k ≡ slice_index (w.files i).bytes k
-  pub unsure : (v.files i).unsure ≡ Run place len ∷ (w.files i).unsure
-  pub spoiled : (v.files i).spoiled ≡ (w.files i).spoiled
   pub opened : SameOpened w v
   pub files : SameFilesBut i w v
   pub names : SameNames w v

@@ -1,5 +1,5 @@
 -- The files of a system at one moment, and what a stop or a loss of power may leave of them.
-use Rattle.std.specs.Prelude.{◌≡◌, ◌⊎◌, ℕ, ◌+◌, ◌&&◌, Bool, true, false, not, List, [], ◌∷◌, Option, None, Some, slice_index, nat_le, nat_lt, drop, take, if◌then◌else◌}
+use Rattle.std.specs.Prelude.{◌≡◌, ◌⊎◌, ℕ, ◌+◌, ◌&&◌, Bool, true, false, not, List, [], ◌∷◌, Option, None, Some, slice_index, nat_le, nat_lt, drop, if◌then◌else◌}
 use Rattle.std.specs.Option.{option_map}
 use Rattle.file_system.specs.declared.system.Kind.{Kind}
 use Rattle.file_system.specs.declared.system.Kind.TheVariants.{Regular}
@@ -42,7 +42,7 @@ pub record FileState : Type 0 where
   pub spoiled : Bool
 
 -- An open file: which one it is, how it is used, where the next read in order begins, and what was accepted by writes through this descriptor.
--- What keeps no bytes, as a pipe, gives those that come, from its opening on.
+-- What keeps no bytes, as a pipe, has those that are still to come.
 pub record Opening : Type 0 where
   pub file : ℕ
   -- None of a folder, which is only synced
@@ -61,12 +61,9 @@ pub record World : Type 0 where
   -- the open files, by their descriptors
   pub opened : ℕ → Option Opening
 
--- what reads in order gave, and what they are still to give
-abbrev pub taken_of : Opening → World → List ℕ
-taken_of o w = if is_regular (w.files o.file).kind then take o.place (w.files o.file).bytes else take o.place o.coming
-
+-- what reads in order are still to give
 abbrev pub left_of : Opening → World → List ℕ
-left_of o w = if is_regular (w.files o.file).kind then drop o.place (w.files o.file).bytes else drop o.place o.coming
+left_of o w = if is_regular (w.files o.file).kind then drop o.place (w.files o.file).bytes else o.coming
 
 -- what was accepted through a descriptor, nothing where it never was one
 abbrev pub put_in : Option Opening → List ℕ

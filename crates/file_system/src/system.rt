@@ -2,7 +2,7 @@
 ghost use Rattle.std.specs.Prelude.{◌≡◌, ◌≢◌, ◌≤◌, ◌<◌, ◌++◌, ℕ, Bool, List, true, false, [], Some, None, IsTrue, IfOk, IfErr, OnOk, OnErr, length, take, string_bytes};
 ghost use Rattle.loom_host.specs.Bytes.{window};
 ghost use Rattle.file_system.specs.World.{Entry, Moments, Opening, is_regular, left_of, part_ending};
-ghost use Rattle.file_system.specs.Calls.{Appends, CanRename, ChangesBy, Closes, Does, FailsToOpen, FailsToSync, Finds, MayDo, Opens, Reads, Removes, Renames, Spoils, Syncs, Tears, emptied, is_in_order, written_at};
+ghost use Rattle.file_system.specs.Calls.{Appends, CanRename, ChangesBy, Closes, Does, FailsToOpen, FailsToSync, Finds, MayDo, Opens, Reads, Removes, Renames, Spoils, Syncs, emptied, is_in_order, written_at};
 ghost use Rattle.file_system.specs.declared.system.Kind.TheVariants.{Link};
 ghost use Rattle.file_system.specs.declared.system.Refusal.TheVariants.{Missing};
 ghost use Rattle.file_system.specs.declared.system.Way.TheVariants.{Place};
@@ -81,8 +81,7 @@ pub trait System {
         ensures opened { IsTrue tells → IfOk result (λ o. Does (Opens making (entry path.now) o.descriptor o.found.file (Some way)) (moments self.old) (moments self.new)) }
         ensures failed { IsTrue tells → OnErr result (FailsToOpen making (entry path.now) (moments self.old) (moments self.new)) }
         ensures kind { IsTrue tells → IfOk result (λ o. ((moments self.new).now.files o.found.file).kind ≡ o.found.kind) }
-        ensures named { IsTrue tells → (i : ℕ) → (moments self.old).now.names (entry path.now) ≡ Some i → ((moments self.old).now.files i).kind ≢ Link → IfOk result (λ o. o.found.file ≡ i) }
-        ensures missing { IsTrue tells → (i : ℕ) → (moments self.old).now.names (entry path.now) ≡ Some i → ((moments self.old).now.files i).kind ≢ Link → IfErr result (λ r. r ≢ Missing) };
+        ensures named { IsTrue tells → (i : ℕ) → (moments self.old).now.names (entry path.now) ≡ Some i → ((moments self.old).now.files i).kind ≢ Link → IfOk result (λ o. o.found.file ≡ i) };
 
     /// Opens the folder that the path lies in, to be synced.
     fn open_folder(&mut self, path: &str) -> Result<u32, Refusal>
@@ -127,8 +126,7 @@ pub trait System {
         ensures some { IfOk result (λ n. 0 < n) }
         ensures written { IsTrue tells → (o : Opening) → (moments self.old).now.opened descriptor ≡ Some o → o.way ≡ Some Place
             → IfOk result (λ n. Does (ChangesBy (written_at place (take n buf.now)) o) (moments self.old) (moments self.new)) }
-        ensures failed { IsTrue tells → (o : Opening) → (moments self.old).now.opened descriptor ≡ Some o → o.way ≡ Some Place → OnErr result (MayDo (Spoils o.file) (moments self.old) (moments self.new)) }
-        ensures torn { IsTrue tells → (o : Opening) → (moments self.old).now.opened descriptor ≡ Some o → o.way ≡ Some Place → OnErr result (MayDo (Tears place (length buf.now) o.file) (moments self.old) (moments self.new)) };
+        ensures failed { IsTrue tells → (o : Opening) → (moments self.old).now.opened descriptor ≡ Some o → o.way ≡ Some Place → OnErr result (MayDo (Spoils o.file) (moments self.old) (moments self.new)) };
 
     /// Cuts a regular file to no bytes.
     fn cut(&mut self, descriptor: u32) -> Result<(), Refusal>

@@ -271,3 +271,47 @@ below-start = record {
 pub below : (cs : Calls) → Below (next_of cs) (world_of cs)
 below Start = below-start
 below (Then' c p rest) = below-step c (next_of rest) (world_of rest) (below rest)
+
+-- ---- nothing is still to come: what is read is in the files
+
+abbrev pub IsUnread : Option Opening → Type 0
+IsUnread None = Unit {0}
+IsUnread (Some o) = o.coming ≡ []
+
+unread-by : (change : Change) (o : Opening) → IsUnread (Some o) → IsUnread (Some (opened_by change o))
+unread-by Closed o h = h
+unread-by (Placed place) o h = h
+unread-by (Put bytes) o h = h
+unread-by (Written place bytes) o h = h
+unread-by Cut o h = h
+unread-by Unsynced o h = h
+
+unread-on : (d : ℕ) (change : Change) (x : Option Opening) (w : World) → IsUnread x → ((k : ℕ) → IsUnread (w.opened k)) → (k : ℕ) → IsUnread ((where_open (changes d change) x w).opened k)
+unread-on d change None w own all k = all k
+unread-on d change (Some o) w own all k = at-either (λ j x. IsUnread x) d k _ w.opened (λ h. unread-by change o own) (all k)
+
+unread-way : (way : Option Way) (o : Opening) (w : World) → ((k : ℕ) → IsUnread (w.opened k)) → (k : ℕ) → IsUnread ((syncs way o w).opened k)
+unread-way None o w all k = all k
+unread-way (Some way) o w all k = all k
+
+unread-synced : (x : Option Opening) (w : World) → ((k : ℕ) → IsUnread (w.opened k)) → (k : ℕ) → IsUnread ((where_open (λ o. syncs o.way o) x w).opened k)
+unread-synced None w all k = all k
+unread-synced (Some o) w all k = unread-way o.way o w all k
+
+shut-unread : (x : Option Opening) → IsUnread x → IsUnread (option_map closed x)
+shut-unread None h = tt
+shut-unread (Some o) h = h
+
+unread-step : (c : Call) (n : ℕ) (w : World) → ((k : ℕ) → IsUnread (w.opened k)) → (k : ℕ) → IsUnread ((step n c w).opened k)
+unread-step (Opened way file) n w all k = either (λ (v : World). IsUnread (v.opened k)) (nat_lt file n) _ _ (at-either (λ j x. IsUnread x) n k _ w.opened (λ h. refl) (all k)) (all k)
+unread-step (Made path way) n w all k = at-either (λ j x. IsUnread x) n k _ w.opened (λ h. refl) (all k)
+unread-step (Added path bytes) n w all k = all k
+unread-step (On d change) n w all k = unread-on d change (w.opened d) w (all d) all k
+unread-step (Synced d) n w all k = unread-synced (w.opened d) w all k
+unread-step (Renamed from to) n w all k = all k
+unread-step (Removed path) n w all k = all k
+unread-step (Lost back fill) n w all k = shut-unread (w.opened k) (all k)
+
+pub unread : (cs : Calls) (k : ℕ) → IsUnread ((world_of cs).opened k)
+unread Start k = at-either (λ j x. IsUnread x) 1 k _ _ (λ h. refl) (at-either (λ j x. IsUnread x) 2 k _ _ (λ h. refl) tt)
+unread (Then' c p rest) k = unread-step c (next_of rest) (world_of rest) (unread rest) k

@@ -1,9 +1,9 @@
 -- What one more call does to the world, as the trait says it.
-use Rattle.std.proofs.Common.{◌≡◌, ◌≢◌, ◌⊎◌, inl, inr, ℕ, ◌+◌, ◌<◌, ◌==◌, not, List, [], ◌∷◌, Bool, true, false, Option, None, Some, Result, Ok, Err, IfOk, OnOk, OnErr, refl, sym, ap, ◌∙◌, subst, if◌then◌else◌, arith, is_some, suc, zero}
+use Rattle.std.proofs.Common.{◌≡◌, ◌≢◌, ◌⊎◌, inl, inr, ℕ, ◌+◌, ◌<◌, ◌==◌, not, List, [], ◌∷◌, Bool, true, false, Option, None, Some, Result, Ok, Err, IfOk, OnOk, OnErr, refl, sym, ap, ◌∙◌, subst, if◌then◌else◌, arith, drop, is_some, suc, zero}
 use Rattle.std.proofs.lemmas.Bool.{false≢true}
 use Rattle.std.specs.Global.{Vec}
 use Rattle.std.specs.Option.{option_map}
-use Rattle.file_system.specs.Calls.{Appends, ChangesBy, Closes, Does, Reads, FailsToOpen, FailsToSync, Finds, IsNew, MakesOpen, MayDo, Opens, Removes, Renames, CanRename, Syncs, Takes, appended, closed, emptied, opening, placed_on, unsynced, written_at}
+use Rattle.file_system.specs.Calls.{Appends, ChangesBy, Closes, Does, Reads, FailsToOpen, FailsToSync, Finds, IsNew, MakesOpen, MayDo, Opens, Removes, Renames, CanRename, Syncs, Takes, appended, closed, emptied, opening, taken_of, unsynced, written_at}
 use Rattle.file_system.specs.World.{Entry, FileState, MayHold, MayLeave, IsOneOf, Moments, Opening, Span, Run, Whole, World, is_in, is_sure}
 use Rattle.file_system.specs.declared.system.Kind.TheVariants.{Regular}
 use Rattle.file_system.specs.declared.system.Opened.{Opened as OpenedFile}
@@ -11,7 +11,7 @@ use Rattle.file_system.specs.declared.system.Making.{Making}
 use Rattle.file_system.specs.declared.system.Making.TheVariants.{Old, May, New}
 use Rattle.file_system.specs.declared.system.Way.{Way}
 use Rattle.file_system.specs.declared.system.Way.TheVariants.{Append}
-use Rattle.memory_files.specs.Memory.{changed_by, changes, entry_of, IsThen, filled, first_of, has_whole, is_append, leads_to, loses, makes, moments_of, next_of, opens_to, past_of, removes, renames, step, syncs, view_of, where_open, with_at, world_of}
+use Rattle.memory_files.specs.Memory.{changes, entry_of, IsThen, filled, first_of, has_whole, is_append, leads_to, loses, makes, moments_of, next_of, opens_to, past_of, removes, renames, step, syncs, view_of, where_open, with_at, world_of}
 use Rattle.memory_files.specs.declared.calls.Call.{Call}
 use Rattle.memory_files.specs.declared.calls.Call.TheVariants.{Opened, Made, On, Synced, Renamed, Removed, Lost}
 use Rattle.memory_files.specs.declared.calls.Calls.{Calls}
@@ -20,7 +20,7 @@ use Rattle.memory_files.specs.declared.calls.Change.{Change}
 use Rattle.memory_files.specs.declared.calls.Change.TheVariants.{Closed, Placed, Put, Written, Cut, Unsynced}
 use Rattle.memory_files.specs.declared.calls.View.{View}
 use Rattle.memory_files.proofs.Files.{same-view}
-use Rattle.memory_files.proofs.Laws.{HasBelow, IsBelow, and-second, as-it-was, below, eq-other, eq-self, elsewhere, here, kinds, name-elsewhere, name-here, opens-is, either}
+use Rattle.memory_files.proofs.Laws.{HasBelow, IsBelow, IsUnread, and-second, as-it-was, below, eq-other, eq-self, elsewhere, here, kinds, name-elsewhere, name-here, opens-is, unread}
 
 -- ---- one more call
 
@@ -111,18 +111,11 @@ at-opening P d change o w is holds = subst (λ (x : Option Opening). P w (where_
 appended-by : (bytes : List ℕ) (way : Option Way) (f : FileState) → way ≡ Some Append → (if is_append way then appended bytes f else f) ≡ appended bytes f
 appended-by bytes way f is = ap (λ (x : Option Way). if is_append x then appended bytes f else f) is
 
-appended-same : (bytes : List ℕ) (f : FileState) → (appended bytes f).kind ≡ f.kind
-appended-same bytes f = either (λ (x : FileState). x.kind ≡ f.kind) (is_regular f.kind) _ _ refl refl
-
-put-kind : (v : Vec ℕ) (way : Option Way) (f : FileState) → (changed_by (Put v) way f).kind ≡ f.kind
-put-kind v way f = either (λ (x : FileState). x.kind ≡ f.kind) (is_append way) _ _ (appended-same v.items f) refl
-
 appends-to : (d : ℕ) (v : Vec ℕ) (o : Opening) (w : World) → Appends d o v.items w (changes d (Put v) o w)
 appends-to d v o w = record {
   opened = here d _ w.opened;
   others = λ k not. elsewhere d k _ w.opened not;
   file = λ is. here o.file _ w.files ∙ appended-by v.items o.way (w.files o.file) is;
-  kind = ap (λ (f : FileState). f.kind) (here o.file _ w.files) ∙ put-kind v o.way (w.files o.file);
   files = λ k not. elsewhere o.file k _ w.files not;
   names = record { names = λ e. refl; earlier = λ e. refl };
 }
@@ -318,23 +311,32 @@ pub writes-next : (cs : Calls) (d place : ℕ) (v : Vec ℕ) (bytes : List ℕ) 
 writes-next cs d place v bytes o is same = subst (λ (bs : List ℕ). ChangesBy (written_at place bs) o (world_of cs) (step (next_of cs) (On d (Written place v)) (world_of cs))) same
     (at-opening (ChangesBy (written_at place v.items) o) d (Written place v) o (world_of cs) is (writes-to d place v o (world_of cs) is))
 
-moved : Opening → ℕ → Opening
-moved o place = record o { place = place }
+abbrev the-none : List ℕ
+the-none = []
 
-placed-is : (o : Opening) (p n : ℕ) → p ≡ o.place + n → record o { place = p } ≡ placed_on n o
-unfolding moved
-placed-is o p n at = ap (moved o) at
+drop-none : (n : ℕ) → drop n the-none ≡ the-none
+drop-none zero = refl
+drop-none (suc n) = refl
 
-reads-to : (d p n : ℕ) (o : Opening) (w : World) → p ≡ o.place + n → Reads d o n w (changes d (Placed p) o w)
-reads-to d p n o w at = record {
-  opened = here d _ w.opened ∙ ap (λ (x : Opening). Some x) (placed-is o p n at);
+abbrev moved : Opening → ℕ → List ℕ → Opening
+moved o place coming = record o { place = place; coming = coming }
+
+placed-is : (o : Opening) (p n : ℕ) → p ≡ o.place + n → o.coming ≡ [] → record o { place = p } ≡ taken_of n o
+placed-is o p n at none = ap (λ (x : ℕ). moved o x o.coming) at ∙ ap (λ (x : List ℕ). moved o (o.place + n) x) (none ∙ (sym (drop-none n) ∙ ap (λ (x : List ℕ). drop n x) (sym none)))
+
+reads-to : (d p n : ℕ) (o : Opening) (w : World) → p ≡ o.place + n → o.coming ≡ [] → Reads d o n w (changes d (Placed p) o w)
+reads-to d p n o w at none = record {
+  opened = here d _ w.opened ∙ ap (λ (x : Opening). Some x) (placed-is o p n at none);
   others = λ k not. elsewhere d k _ w.opened not;
   names = record { names = λ e. refl; earlier = λ e. refl };
   files = λ k. as-it-was o.file k _ w.files refl;
 }
 
+unread-some : (x : Option Opening) (o : Opening) → IsUnread x → x ≡ Some o → o.coming ≡ []
+unread-some x o none is = subst IsUnread is none
+
 pub reads-next : (cs : Calls) (d p n : ℕ) (o : Opening) → (world_of cs).opened d ≡ Some o → p ≡ o.place + n → Reads d o n (world_of cs) (step (next_of cs) (On d (Placed p)) (world_of cs))
-reads-next cs d p n o is at = at-opening (λ w u. Reads d o n w u) d (Placed p) o (world_of cs) is (reads-to d p n o (world_of cs) at)
+reads-next cs d p n o is at = at-opening (λ w u. Reads d o n w u) d (Placed p) o (world_of cs) is (reads-to d p n o (world_of cs) at (unread-some _ o (unread cs d) is))
 
 pub opens-may : {E : Type 0} (old mid new : Calls) (making : Making) (path s : List ℕ) (file : ℕ) (way : Way) (named : Option ℕ) (r : Result OpenedFile E) → making ≡ May → mid ≡ old → named ≡ (world_of mid).names (entry_of s) → named ≡ Some file
     → (file < next_of mid → IfOk r (λ o. Does (Finds o.descriptor o.found.file (Some way)) (moments_of mid) (moments_of new))) → IfOk r (λ o. Does (Opens making (entry_of path) o.descriptor o.found.file (Some way)) (moments_of old) (moments_of new))

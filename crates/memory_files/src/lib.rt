@@ -16,7 +16,7 @@
 //! - Proved: It meets every clause of `System`, and tells all: so one system can meet them together. What a loss of power leaves of it is
 //!   something that `MayLeave` allows (`lose.lost`).
 //! - Tested: A saving over it, and that it answers as `system_files` does (`file_tests`).
-//! - Not said: It has one folder and no links, devices, modes or times; an append moves three bytes at most, a read too, and a write all; what was
+//! - Not said: It has one folder and no links, devices, modes or times; an append and a write move three bytes at most, a read too; what was
 //!   written to a file that was synced before is never lost; a name is lost with all others or not at all; no other process is there.
 #![tactic(auto)]
 

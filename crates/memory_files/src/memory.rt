@@ -1,12 +1,11 @@
 // The system over its list of calls.
-ghost use Rattle.std.specs.Prelude.{◌≡◌, ◌≢◌, ◌<◌, ◌≤◌, ◌-◌, [], Some, None, IfErr, IfOk, OnOk, OnErr, true, length, take, drop};
+ghost use Rattle.std.specs.Prelude.{◌≡◌, ◌<◌, ◌≤◌, ◌-◌, [], Some, None, IfOk, OnOk, OnErr, true, length, take, drop};
 ghost use Rattle.std.specs.Option.{option_map};
 ghost use Rattle.loom_host.specs.Bytes.{window};
 ghost use Rattle.file_system.specs.Calls.{Does, Finds, MakesOpen, opening};
 ghost use Rattle.file_system.specs.declared.system.Way.TheVariants.{Stream};
 ghost use Rattle.file_system.specs.World.{MayLeave};
 ghost use Rattle.file_system.specs.declared.system.Kind.TheVariants.{Regular};
-ghost use Rattle.file_system.specs.declared.system.Refusal.TheVariants.{Missing};
 ghost use Rattle.memory_files.specs.Memory.{IsThen, ShowsFile, apart_everywhere, entry_of, moments_of, next_of, view_of, world_of};
 ghost use Rattle.memory_files.specs.declared.calls.Call.TheVariants.{On};
 
@@ -89,7 +88,6 @@ impl MemoryFiles {
         ensures noted { OnOk result (IsThen call self.old.calls self.new.calls) }
         ensures failed { OnErr result (self.new.calls ≡ self.old.calls) }
         ensures alloc { self.new.alloc ≡ self.old.alloc }
-        ensures other { IfErr result (λ r. r ≢ Missing) }
     {
         let Some(next) = self.next.checked_add(1) else {
             return Err(Refusal::Failed);
@@ -138,8 +136,7 @@ impl MemoryFiles {
     }
 
     fn number(&self) -> Result<u32, Refusal>
-        ensures next { IfOk result (λ n. n ≡ next_of self.now.calls) }
-        ensures other { IfErr result (λ r. r ≢ Missing) }
+        ensures { IfOk result (λ n. n ≡ next_of self.now.calls) }
     {
         match u32::try_from(self.next) {
             Ok(number) => Ok(number),
@@ -149,7 +146,6 @@ impl MemoryFiles {
 
     fn open_found(&mut self, file: u64, way: Option<Way>) -> Result<u32, Refusal>
         ensures opened { file < next_of self.old.calls → IfOk result (λ d. Does (Finds d file way) (moments_of self.old.calls) (moments_of self.new.calls)) }
-        ensures other { IfErr result (λ r. r ≢ Missing) }
         ensures failed { OnErr result (self.new.calls ≡ self.old.calls) }
     {
         let number = self.number()?;
@@ -162,7 +158,6 @@ impl MemoryFiles {
         ensures opened { file < next_of self.old.calls → IfOk result (λ o. Does (Finds o.descriptor o.found.file (Some way)) (moments_of self.old.calls) (moments_of self.new.calls)) }
         ensures found { IfOk result (λ o. o.found.file ≡ file) }
         ensures kind { IfOk result (λ o. o.found.kind ≡ Regular) }
-        ensures other { IfErr result (λ r. r ≢ Missing) }
         ensures failed { OnErr result (self.new.calls ≡ self.old.calls) }
     {
         let descriptor = self.open_found(file, Some(way))?;
@@ -175,7 +170,6 @@ impl MemoryFiles {
     fn make(&mut self, path: &str, way: Way) -> Result<Opened, Refusal>
         ensures made { (world_of self.old.calls).names (entry_of path.now) ≡ None → IfOk result (λ o. Does (MakesOpen (entry_of path.now) o.descriptor o.found.file (Some way)) (moments_of self.old.calls) (moments_of self.new.calls)) }
         ensures kind { IfOk result (λ o. o.found.kind ≡ Regular) }
-        ensures other { IfErr result (λ r. r ≢ Missing) }
         ensures failed { OnErr result (self.new.calls ≡ self.old.calls) }
     {
         let descriptor = self.number()?;
@@ -349,11 +343,12 @@ impl System for MemoryFiles {
         if seen.way != Some(Way::Place) {
             return Err(Refusal::Failed);
         }
-        let Ok(bytes) = Vec::from_slice(self.alloc, buf) else {
+        let n = buf.len().min(MOST);
+        let Ok(bytes) = Vec::from_slice(self.alloc, &buf[..n]) else {
             return Err(Refusal::Failed);
         };
         self.on(descriptor, Change::Written(place, bytes))?;
-        Ok(buf.len())
+        Ok(n)
     }
 
     fn cut(&mut self, descriptor: u32) -> Result<(), Refusal> {

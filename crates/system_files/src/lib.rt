@@ -1,8 +1,7 @@
 //! The calls of a system over the files that this process reaches.
 //!
-//! Each method of `SystemFiles` is one call, made again where a signal interrupted it (a write at a place, until the whole piece is put), and none
-//! decides anything. It tells nothing: that the real system does what the clauses of `System` say is trusted, and so is this crate. All that
-//! stands over a `System` is proved.
+//! Each method of `SystemFiles` is one call, made again where a signal interrupted it, and none decides anything. It tells nothing: that the
+//! real system does what the clauses of `System` say is trusted, and so is this crate. All that stands over a `System` is proved.
 //!
 //! ```text
 //! let mut system = SystemFiles::new(rt, rt.stdout(), rt.stderr());

@@ -233,8 +233,16 @@ where
     }
 
     fn write_at(&mut self, descriptor: u32, place: u64, buf: &[u8]) -> Result<usize, Refusal> {
-        answer(self.file(descriptor)?.write_all_at(buf, place))?;
-        Ok(buf.len())
+        let file = self.file(descriptor)?;
+        for _ in 0..MOST_TRIES {
+            match file.write_at(buf, place) {
+                Ok(0) => return Err(Refusal::Failed),
+                Ok(n) => return Ok(n),
+                Err(error) if error.kind() == ErrorKind::Interrupted => {}
+                Err(error) => return Err(refusal(&error)),
+            }
+        }
+        Err(Refusal::Interrupted)
     }
 
     fn cut(&mut self, descriptor: u32) -> Result<(), Refusal> {

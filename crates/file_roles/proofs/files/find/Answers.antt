@@ -1,7 +1,5 @@
 use Rattle.file_roles.specs.Open.{whatever}
 use Rattle.file_roles.proofs.OpenLaws.{leaves-then, opened-earlier-ok}
-use Rattle.file_saving.specs.Opened.{any}
-use Rattle.file_saving.proofs.OpenedLaws.{open-then}
 use Rattle.file_roles.proofs.files.find.Goals as goal
 
 pub returns-in-Err-Missing-clause-leaves : goal.returns-in-Err-Missing-clause-leaves
@@ -9,6 +7,3 @@ returns-in-Err-Missing-clause-leaves g c told = leaves-then whatever _ _ _ (c.op
 
 pub returns-in-Err-Missing-clause-opened : goal.returns-in-Err-Missing-clause-opened
 returns-in-Err-Missing-clause-opened g c told = opened-earlier-ok _ _ _ c.create.result (c.open_old.ensures.leaves told).puts (c.create.ensures.opened told)
-
-pub returns-in-Err-Missing-clause-left : goal.returns-in-Err-Missing-clause-left
-returns-in-Err-Missing-clause-left g c told = open-then any any any _ _ _ (c.open_old.ensures.left told) (c.create.ensures.left told)

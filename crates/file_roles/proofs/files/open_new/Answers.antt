@@ -1,6 +1,5 @@
 use Rattle.file_roles.specs.Open.{whatever}
 use Rattle.file_roles.proofs.OpenLaws.{leaves-made, leaves-unmade, takes-opened}
-use Rattle.file_saving.proofs.OpenedLaws.{open-made, open-unmade}
 use Rattle.file_roles.proofs.files.open_new.Goals as goal
 
 pub returns-in_err-opened-clause-leaves : goal.returns-in_err-opened-clause-leaves
@@ -10,10 +9,4 @@ pub returns-clause-leaves : goal.returns-clause-leaves
 returns-clause-leaves g c told = leaves-made whatever _ _ _ _ _ _ (c.in_ok-opened.ensures.opened told)
 
 pub returns-clause-opened : goal.returns-clause-opened
-returns-clause-opened g c told = takes-opened _ _ _ (c.in_ok-opened.ensures.opened told).does.takes (c.in_ok-opened.ensures.kind told)
-
-pub returns-in_err-opened-clause-left : goal.returns-in_err-opened-clause-left
-returns-in_err-opened-clause-left g c told = open-unmade _ _ _ (c.in_err-opened.ensures.failed told)
-
-pub returns-clause-left : goal.returns-clause-left
-returns-clause-left g c told = open-made _ _ _ _ _ _ (c.in_ok-opened.ensures.opened told)
+returns-clause-opened g c told = takes-opened _ _ _ (c.in_ok-opened.ensures.opened told).does.takes

@@ -1,8 +1,5 @@
 use Rattle.file_roles.specs.Open.{whatever}
 use Rattle.file_roles.proofs.OpenLaws.{leaves-found, leaves-same, takes-opened}
-use Rattle.file_saving.specs.Opened.{any}
-use Rattle.file_saving.proofs.OpenedLaws.{open-found, open-same}
-use Rattle.file_roles.proofs.LeftLaws.{at-start}
 use Rattle.file_roles.proofs.files.open_old.Goals as goal
 
 pub returns-in_err-opened-clause-leaves : goal.returns-in_err-opened-clause-leaves
@@ -12,13 +9,4 @@ pub returns-clause-leaves : goal.returns-clause-leaves
 returns-clause-leaves g c told = leaves-found whatever _ _ _ _ _ (c.in_ok-opened.ensures.opened told)
 
 pub returns-clause-opened : goal.returns-clause-opened
-returns-clause-opened g c told = takes-opened _ _ _ (c.in_ok-opened.ensures.opened told).does.takes (c.in_ok-opened.ensures.kind told)
-
-pub returns-in_err-opened-clause-left : goal.returns-in_err-opened-clause-left
-returns-in_err-opened-clause-left g c told = open-same any any any _ _ (c.in_err-opened.ensures.failed told)
-
-pub returns-clause-left : goal.returns-clause-left
-returns-clause-left g c told = open-found _ _ _ _ _ (c.in_ok-opened.ensures.opened told)
-
-pub returns-clause-starts : goal.returns-clause-starts
-returns-clause-starts g c told = at-start _ _ _ (c.in_ok-opened.ensures.opened told).does.takes.opened (c.in_ok-opened.ensures.kind told)
+returns-clause-opened g c told = takes-opened _ _ _ (c.in_ok-opened.ensures.opened told).does.takes

@@ -1,5 +1,4 @@
 use Rattle.file_roles.proofs.OpenLaws.{put-fails, put-puts}
-use Rattle.file_roles.proofs.LeftLaws.{left-put}
 use Rattle.file_roles.proofs.files.put.Goals as goal
 
 pub returns-clause-put : goal.returns-clause-put
@@ -7,6 +6,3 @@ returns-clause-put g c told order used = put-puts c.args.used.now c.args.buf.now
 
 pub returns-clause-failed : goal.returns-clause-failed
 returns-clause-failed g c told order used = put-fails c.args.used.now _ _ c.append.result order used (c.append.ensures.failed told)
-
-pub returns-clause-left : goal.returns-clause-left
-returns-clause-left g c told order used = left-put c.args.used.now c.args.buf.now _ _ c.append.result order used (c.append.ensures.put told) (c.append.ensures.failed told)

@@ -2,9 +2,6 @@ use Rattle.std.proofs.Common.{◌≡◌, ◌≢◌, string_bytes}
 use Rattle.file_saving.proofs.PutLaws.{puts-then}
 use Rattle.file_saving.proofs.SavingLaws.{keeps-then}
 use Rattle.file_roles.proofs.SavedLaws.{begun-still, keeps-path, on-ok, same-saving}
-use Rattle.file_saving.specs.Opened.{any}
-use Rattle.file_saving.proofs.OpenedLaws.{open-given, open-then}
-use Rattle.file_roles.specs.Open.{IsUnread}
 use Rattle.file_roles.proofs.saved.begin_saved.Goals as goal
 
 pub returns-in_err-saving-clause-keeps : goal.returns-in_err-saving-clause-keeps
@@ -30,10 +27,3 @@ returns-clause-fresh g c told d u is = same-saving (λ s. d ≢ s.descriptor) _ 
 
 pub returns-clause-free : goal.returns-clause-free
 returns-clause-free g c told i is = on-ok c.apart.result (c.in_ok-mode.ensures.free told i is)
-
-pub returns-in_err-saving-clause-left : goal.returns-in_err-saving-clause-left
-returns-in_err-saving-clause-left g c told = open-then any any any _ _ _ (c.in_ok-mode.ensures.left told) (c.in_err-saving.ensures.left told)
-
-pub returns-clause-left : goal.returns-clause-left
-returns-clause-left g c told =
-    open-given _ _ _ _ (λ d u is. c.in_ok-saving.ensures.fresh told d u ((c.in_ok-mode.ensures.puts told).uses d u is)) (open-then any any any _ _ _ (c.in_ok-mode.ensures.left told) (c.in_ok-saving.ensures.left told)) (c.apart.ensures.left told)

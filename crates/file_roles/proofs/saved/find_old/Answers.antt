@@ -2,8 +2,6 @@ use Rattle.std.proofs.Common.{refl}
 use Rattle.file_saving.proofs.PutLaws.{puts-closed, puts-found, puts-same, puts-then}
 use Rattle.file_saving.proofs.SavingLaws.{keeps-closed, keeps-same, keeps-then}
 use Rattle.file_roles.proofs.SavedLaws.{found-same, keeps-found, none-found}
-use Rattle.file_saving.specs.Opened.{any}
-use Rattle.file_saving.proofs.OpenedLaws.{open-closed, open-found, open-same, open-shut, open-then}
 use Rattle.file_roles.proofs.saved.find_old.Goals as goal
 
 pub returns-in_ok-old-in-Ok-clause-keeps : goal.returns-in_ok-old-in-Ok-clause-keeps
@@ -35,17 +33,3 @@ returns-in-Err-clause-keeps g c told e = keeps-same e _ _ (c.look.ensures.still 
 
 pub returns-in-Err-clause-puts : goal.returns-in-Err-clause-puts
 returns-in-Err-clause-puts g c told = puts-same _ _ (c.look.ensures.still told)
-
-pub returns-in_ok-old-in-Ok-clause-left : goal.returns-in_ok-old-in-Ok-clause-left
-returns-in_ok-old-in-Ok-clause-left g c told =
-    let found = c.in_ok-old-in-Ok.ensures.opened told in
-    open-then any any any _ _ _ (open-same any any any _ _ (c.look.ensures.still told)) (open-shut _ any _ _ _ found.does.takes.free (open-found _ _ _ _ _ found) (open-closed _ _ _ (c.close.ensures told)))
-
-pub returns-in_err-old-in-Ok-clause-left : goal.returns-in_err-old-in-Ok-clause-left
-returns-in_err-old-in-Ok-clause-left g c told = open-then any any any _ _ _ (open-same any any any _ _ (c.look.ensures.still told)) (open-same any any any _ _ (c.in_err-old-in-Ok.ensures.failed told))
-
-pub returns-in-Err-Missing-clause-left : goal.returns-in-Err-Missing-clause-left
-returns-in-Err-Missing-clause-left g c told = open-same any any any _ _ (c.look.ensures.still told)
-
-pub returns-in-Err-clause-left : goal.returns-in-Err-clause-left
-returns-in-Err-clause-left g c told = open-same any any any _ _ (c.look.ensures.still told)

@@ -1,8 +1,6 @@
 use Rattle.std.proofs.Common.{refl, ◌∙◌}
 use Rattle.file_saving.proofs.SavingLaws.{entry-apart, keeps-same, keeps-then}
 use Rattle.file_saving.proofs.PutLaws.{same-apart}
-use Rattle.file_saving.specs.Opened.{any}
-use Rattle.file_saving.proofs.OpenedLaws.{open-given, open-same, open-then}
 use Rattle.file_saving.proofs.saving.begin.Goals as goal
 
 pub returns-in_default-clause-keeps : goal.returns-in_default-clause-keeps
@@ -24,16 +22,3 @@ returns-clause-keeps g c told =
 
 pub returns-clause-fresh : goal.returns-clause-fresh
 returns-clause-fresh g c told d u is = same-apart _ d c.permitted.result c.permitted.ensures.same (c.in_ok-saving.ensures.fresh told d u ((c.in_ok-clear.ensures.puts told).uses d u is))
-
-pub returns-in_default-clause-left : goal.returns-in_default-clause-left
-returns-in_default-clause-left g c told = open-same any any any _ _ refl
-
-pub returns-in_default-part_of-clause-left : goal.returns-in_default-part_of-clause-left
-returns-in_default-part_of-clause-left g c told = open-same any any any _ _ refl
-
-pub returns-in_err-saving-clause-left : goal.returns-in_err-saving-clause-left
-returns-in_err-saving-clause-left g c told = open-then any any any _ _ _ (c.in_ok-clear.ensures.left told) (c.in_err-saving.ensures.left told)
-
-pub returns-clause-left : goal.returns-clause-left
-returns-clause-left g c told =
-    open-given _ _ _ _ (λ d u is. c.in_ok-saving.ensures.fresh told d u ((c.in_ok-clear.ensures.puts told).uses d u is)) (open-then any any any _ _ _ (c.in_ok-clear.ensures.left told) (c.in_ok-saving.ensures.left told)) (c.permitted.ensures.left told)

@@ -1,7 +1,5 @@
 use Rattle.file_saving.proofs.SavingLaws.{keeps-removed, keeps-same, keeps-then}
 use Rattle.file_saving.proofs.PutLaws.{puts-same}
-use Rattle.file_saving.specs.Opened.{any}
-use Rattle.file_saving.proofs.OpenedLaws.{open-removed, open-same, open-then}
 use Rattle.file_saving.proofs.saving.clear.Goals as goal
 
 pub returns-then-ne-clause-keeps : goal.returns-then-ne-clause-keeps
@@ -14,13 +12,4 @@ pub returns-in-Err-Missing-clause-keeps : goal.returns-in-Err-Missing-clause-kee
 returns-in-Err-Missing-clause-keeps g c told e other = keeps-same e _ _ (c.look.ensures.still told)
 
 pub returns-in-Err : goal.returns-in-Err
-returns-in-Err g c = record { keeps = λ told e other. keeps-same e _ _ (c.look.ensures.still told); puts = λ told. puts-same _ _ (c.look.ensures.still told); left = λ told. open-same any any any _ _ (c.look.ensures.still told) }
-
-pub returns-then-ne-clause-left : goal.returns-then-ne-clause-left
-returns-then-ne-clause-left g c told = open-same any any any _ _ (c.look.ensures.still told)
-
-pub returns-else-ne-clause-left : goal.returns-else-ne-clause-left
-returns-else-ne-clause-left g c told = open-then any any any _ _ _ (open-same any any any _ _ (c.look.ensures.still told)) (open-removed _ _ _ c.remove.result (c.remove.ensures.removed told) (c.remove.ensures.failed told))
-
-pub returns-in-Err-Missing-clause-left : goal.returns-in-Err-Missing-clause-left
-returns-in-Err-Missing-clause-left g c told = open-same any any any _ _ (c.look.ensures.still told)
+returns-in-Err g c = record { keeps = λ told e other. keeps-same e _ _ (c.look.ensures.still told); puts = λ told. puts-same _ _ (c.look.ensures.still told) }

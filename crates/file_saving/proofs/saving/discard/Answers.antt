@@ -1,7 +1,5 @@
 use Rattle.file_saving.proofs.SavingLaws.{apart-closed, leaves-closed, leaves-then}
 use Rattle.file_saving.proofs.PutLaws.{puts-closed, puts-then}
-use Rattle.file_saving.specs.Opened.{any, but}
-use Rattle.file_saving.proofs.OpenedLaws.{open-closed, open-gives, open-then}
 use Rattle.file_saving.proofs.saving.discard.Goals as goal
 
 pub returns-clause-untouched : goal.returns-clause-untouched
@@ -9,6 +7,3 @@ returns-clause-untouched g c told e apart = leaves-then e _ _ _ (leaves-closed e
 
 pub returns-clause-puts : goal.returns-clause-puts
 returns-clause-puts g c told = puts-then _ _ _ (puts-closed _ _ _ (c.close.ensures told)) (c.remove_part.ensures.puts told)
-
-pub returns-clause-left : goal.returns-clause-left
-returns-clause-left g c told = open-then (but _) any any _ _ _ (open-closed _ _ _ (c.close.ensures told)) (open-gives (but _) any any _ _ (c.remove_part.ensures.left told))

@@ -1,7 +1,5 @@
 use Rattle.file_saving.proofs.SavingLaws.{entry-apart, from-ok, good-before, keeps-left, keeps-moves, moves-left}
 use Rattle.file_saving.proofs.PutLaws.{puts-then}
-use Rattle.file_saving.specs.Opened.{any, but}
-use Rattle.file_saving.proofs.OpenedLaws.{open-then, open-through, open-wide}
 use Rattle.file_saving.proofs.saving.finish.Goals as goal
 
 pub returns-then-is_err-clause-moves : goal.returns-then-is_err-clause-moves
@@ -39,16 +37,3 @@ returns-clause-puts g c told bytes u =
 
 pub returns-then-is_err-clause-puts : goal.returns-then-is_err-clause-puts
 returns-then-is_err-clause-puts g c told bytes u = puts-then _ _ _ (c.settle.ensures.puts told bytes u) (c.discard.ensures.puts told)
-
-pub returns-then-is_err-clause-left : goal.returns-then-is_err-clause-left
-returns-then-is_err-clause-left g c told bytes u = open-then (but _) any (but _) _ _ _ (c.settle.ensures.left told bytes u) (open-through _ _ _ _ (c.discard.ensures.left told))
-
-pub returns-then-is_err-2-clause-left : goal.returns-then-is_err-2-clause-left
-returns-then-is_err-2-clause-left g c told bytes u =
-    let finished = from-ok c.settle.result _ c.is_err.ensures.value c.if-is_err.false (c.settle.ensures.finished told bytes u) in
-    open-then (but _) any (but _) _ _ _ (c.settle.ensures.left told bytes u) (open-then (but _) any (but _) _ _ _ (open-wide _ _ _ _ (c.take_name.ensures.left told bytes finished)) (open-wide _ _ _ _ (c.remove_part.ensures.left told)))
-
-pub returns-clause-left : goal.returns-clause-left
-returns-clause-left g c told bytes u =
-    let finished = from-ok c.settle.result _ c.is_err.ensures.value c.if-is_err.false (c.settle.ensures.finished told bytes u) in
-    open-then (but _) any (but _) _ _ _ (c.settle.ensures.left told bytes u) (open-wide _ _ _ _ (c.take_name.ensures.left told bytes finished))

@@ -1,6 +1,5 @@
 use Rattle.file_saving.proofs.SavingLaws.{keeps-unmade, keeps-made}
 use Rattle.file_saving.proofs.PutLaws.{takes-apart}
-use Rattle.file_saving.proofs.OpenedLaws.{open-made, open-unmade}
 use Rattle.file_saving.proofs.saving.open_part.Goals as goal
 
 pub returns-in_err-opened-clause-keeps : goal.returns-in_err-opened-clause-keeps
@@ -11,9 +10,3 @@ returns-clause-keeps g c told e other = keeps-made _ e _ _ _ _ _ other (rw c.as_
 
 pub returns-clause-fresh : goal.returns-clause-fresh
 returns-clause-fresh g c told d u is = takes-apart _ _ _ _ _ (c.in_ok-opened.ensures.opened told).does.takes d u is
-
-pub returns-in_err-opened-clause-left : goal.returns-in_err-opened-clause-left
-returns-in_err-opened-clause-left g c told = open-unmade _ _ _ (c.in_err-opened.ensures.failed told)
-
-pub returns-clause-left : goal.returns-clause-left
-returns-clause-left g c told = open-made _ _ _ _ _ _ (c.in_ok-opened.ensures.opened told)

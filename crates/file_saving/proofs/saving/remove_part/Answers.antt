@@ -1,8 +1,6 @@
 use Rattle.std.proofs.Common.{ap, refl}
 use Rattle.std.proofs.lemmas.Result.{IfOk-at_ok}
 use Rattle.file_saving.proofs.SavingLaws.{leaves-found, leaves-same}
-use Rattle.file_saving.specs.Opened.{any}
-use Rattle.file_saving.proofs.OpenedLaws.{open-removed, open-same, open-then}
 use Rattle.file_saving.proofs.saving.remove_part.Goals as goal
 
 pub returns-then-found-saving-clause-untouched : goal.returns-then-found-saving-clause-untouched
@@ -14,12 +12,3 @@ returns-else-found-saving-clause-untouched g c told e apart = leaves-same e _ _ 
 
 pub returns-in_default-clause-untouched : goal.returns-in_default-clause-untouched
 returns-in_default-clause-untouched g c told e apart = leaves-same e _ _ (c.look.ensures.still told)
-
-pub returns-then-found-saving-clause-left : goal.returns-then-found-saving-clause-left
-returns-then-found-saving-clause-left g c told = open-then any any any _ _ _ (open-same any any any _ _ (c.look.ensures.still told)) (open-removed _ _ _ c.remove.result (c.remove.ensures.removed told) (c.remove.ensures.failed told))
-
-pub returns-else-found-saving-clause-left : goal.returns-else-found-saving-clause-left
-returns-else-found-saving-clause-left g c told = open-same any any any _ _ (c.look.ensures.still told)
-
-pub returns-in_default-clause-left : goal.returns-in_default-clause-left
-returns-in_default-clause-left g c told = open-same any any any _ _ (c.look.ensures.still told)

@@ -2,9 +2,6 @@ use Rattle.std.proofs.Common.{ap, refl}
 use Rattle.file_system.specs.Calls.{synced}
 use Rattle.file_saving.proofs.SavingLaws.{finished-through, keeps-changed, keeps-closed, keeps-same, keeps-then, keeps-unsynced}
 use Rattle.file_saving.proofs.PutLaws.{puts-changed, puts-closed, puts-same, puts-then, puts-unsynced}
-use Rattle.file_saving.specs.Opened.{any, but}
-use Rattle.file_saving.specs.Saving.{being_written}
-use Rattle.file_saving.proofs.OpenedLaws.{open-changes, open-closed, open-of, open-same, open-then, open-through, open-unsynced}
 use Rattle.file_saving.proofs.saving.settle.Goals as goal
 
 pub returns-in_err-sync-clause-keeps : goal.returns-in_err-sync-clause-keeps
@@ -27,17 +24,3 @@ returns-clause-finished g c told bytes u = finished-through _ _ _ _ _ bytes _ _ 
 
 pub returns-clause-puts : goal.returns-clause-puts
 returns-clause-puts g c told bytes u = puts-then _ _ _ (puts-changed _ bytes synced _ _ (c.in_ok-sync.ensures.synced told _ u.opened)) (puts-then _ _ _ (puts-same _ _ (c.in_ok-found.ensures.still told)) (puts-closed _ _ _ (c.close.ensures told)))
-
-pub returns-in_err-sync-clause-left : goal.returns-in_err-sync-clause-left
-returns-in_err-sync-clause-left g c told bytes u = open-of _ _ _ _ (open-unsynced (being_written c.args.saving.now.file bytes) _ _ (c.in_err-sync.ensures.failed told _ u.opened))
-
-pub returns-in_err-found-clause-left : goal.returns-in_err-found-clause-left
-returns-in_err-found-clause-left g c told bytes u = open-then (but _) any (but _) _ _ _ (open-of _ _ _ _ (open-changes _ _ _ _ refl (c.in_ok-sync.ensures.synced told _ u.opened).does)) (open-same (but _) any (but _) _ _ (c.in_err-found.ensures.still told))
-
-pub returns-then-found-saving-clause-left : goal.returns-then-found-saving-clause-left
-returns-then-found-saving-clause-left g c told bytes u = open-then (but _) any (but _) _ _ _ (open-of _ _ _ _ (open-changes _ _ _ _ refl (c.in_ok-sync.ensures.synced told _ u.opened).does)) (open-same (but _) any (but _) _ _ (c.in_ok-found.ensures.still told))
-
-pub returns-clause-left : goal.returns-clause-left
-returns-clause-left g c told bytes u =
-    open-then (but _) any (but _) _ _ _ (open-of _ _ _ _ (open-changes _ _ _ _ refl (c.in_ok-sync.ensures.synced told _ u.opened).does))
-    (open-then (but _) any (but _) _ _ _ (open-same (but _) any (but _) _ _ (c.in_ok-found.ensures.still told)) (open-through _ _ _ _ (open-closed _ _ _ (c.close.ensures told))))

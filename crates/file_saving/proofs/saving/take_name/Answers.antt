@@ -1,8 +1,6 @@
 use Rattle.file_saving.proofs.SavingLaws.{good-around, moves-around, throughout-same}
 use Rattle.std.proofs.Common.{string_bytes}
 use Rattle.file_saving.proofs.PutLaws.{puts-around}
-use Rattle.file_saving.specs.Opened.{any}
-use Rattle.file_saving.proofs.OpenedLaws.{open-around, open-same}
 use Rattle.file_saving.proofs.saving.take_name.Goals as goal
 
 pub returns-in_err-folder-clause-moves : goal.returns-in_err-folder-clause-moves
@@ -16,9 +14,3 @@ returns-clause-moved g c told bytes f = good-around _ _ _ _ bytes _ _ _ _ c.put_
 
 pub returns-clause-puts : goal.returns-clause-puts
 returns-clause-puts g c told bytes f = puts-around _ (g.S.System.entry (string_bytes c.args.saving.now.path)) _ _ bytes _ _ _ _ f (rw c.as_str.ensures.value at c.in_ok-folder.ensures.opened told) (c.put_name-named.ensures.puts told bytes) (c.close.ensures told)
-
-pub returns-in_err-folder-clause-left : goal.returns-in_err-folder-clause-left
-returns-in_err-folder-clause-left g c told bytes f = open-same any any any _ _ (c.in_err-folder.ensures.failed told)
-
-pub returns-clause-left : goal.returns-clause-left
-returns-clause-left g c told bytes f = open-around _ (g.S.System.entry (string_bytes c.args.saving.now.path)) _ _ bytes _ _ _ _ f (rw c.as_str.ensures.value at c.in_ok-folder.ensures.opened told) (c.put_name-named.ensures.left told bytes) (c.close.ensures told)

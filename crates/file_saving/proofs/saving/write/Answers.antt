@@ -2,7 +2,6 @@ use Rattle.std.proofs.Common.{refl}
 use Rattle.file_saving.specs.Saving.{being_written}
 use Rattle.file_saving.proofs.SavingLaws.{keeps-appended, unfinished-put}
 use Rattle.file_saving.proofs.PutLaws.{puts-else-ok, puts-spoiled}
-use Rattle.file_saving.proofs.OpenedLaws.{open-put}
 use Rattle.file_saving.proofs.saving.write.Goals as goal
 
 pub returns-clause-keeps : goal.returns-clause-keeps
@@ -24,8 +23,3 @@ pub returns-clause-others : goal.returns-clause-others
 returns-clause-others g c told bytes u =
     let o = being_written c.args.saving.now.file bytes in
     puts-else-ok _ o c.args.buf.now _ _ c.append.result u.opened (c.append.ensures.put told o u.opened refl)
-
-pub returns-clause-left : goal.returns-clause-left
-returns-clause-left g c told bytes u =
-    let o = being_written c.args.saving.now.file bytes in
-    open-put _ o c.args.buf.now _ _ c.append.result u.opened (c.append.ensures.put told o u.opened refl) (c.append.ensures.failed told o u.opened refl)

@@ -5,9 +5,6 @@ use Rattle.std.proofs.Common.{ap}
 use Rattle.file_system.specs.World.{Moments}
 use Rattle.file_host.specs.Told.{saved_state}
 use Rattle.file_host.proofs.RoleLaws.{stands-moved}
-use Rattle.std.proofs.Common.{◌≢◌}
-use Rattle.file_roles.specs.Share.{IsNoInput}
-use Rattle.file_host.proofs.HostLaws.{each-some}
 use Rattle.file_host.proofs.host.FileHost.attach_display.Goals as goal
 
 pub invariant_of-self : goal.invariant_of-self
@@ -27,9 +24,3 @@ returns-in-Ok-attach-clause-saved g c = if-told g.S.System.tells _ _ _ _ (λ tol
 
 pub returns-in-Err-clause-saved : goal.returns-in-Err-clause-saved
 returns-in-Err-clause-saved g c = if-told g.S.System.tells _ _ _ _ (λ told. told-beside _ (is_of c.in-Ok.beside.saving) _ _ _ (c.in-Ok.ensures.still told) (c.attach.ensures.leaves told))
-
-pub returns-in-Ok-attach-clause-kept : goal.returns-in-Ok-attach-clause-kept
-returns-in-Ok-attach-clause-kept g c told path i is leads = each-some (λ u. u.found.file ≢ i) _ (c.in-Ok-attach.ensures.kept i (c.in-Ok.ensures.kept told path i is leads))
-
-pub returns-in-Ok-attach-clause-inputs : goal.returns-in-Ok-attach-clause-inputs
-returns-in-Ok-attach-clause-inputs g c = each-some (λ u. IsNoInput c.args.self.now.table u.found.file) _ c.in-Ok-attach.ensures.inputs

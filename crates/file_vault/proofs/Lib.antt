@@ -1,6 +1,0 @@
-mod StepLaws
-mod StandLaws
-mod OpenLaws
-mod LeaveLaws
-mod VaultLaws
-mod PieceLaws

@@ -1,4 +1,0 @@
-pub mod Gates
-pub mod Others
-pub mod Told
-pub mod Disk
